@@ -1,0 +1,23 @@
+-- Grids. A grid is the list of its cells' values, cell number 0 first.
+use mathlib.Core.Bool.{Bool, not, _||_}
+use mathlib.Core.List.{List}
+use Prim.Native.Nat.{ℕ, min}
+use lib.Dec.{eqb}
+use lib.ListN.{length, getD}
+use Rattle.cells.specs.Sets.{has, all, setOf}
+
+-- How many cells two grids have in common: those below both lengths.
+abbrev pub common : List ℕ → List ℕ → ℕ
+common g h = min (length g) (length h)
+
+-- Two grids have the same value in the cell.
+abbrev pub alike : List ℕ → List ℕ → ℕ → Bool
+alike g h c = eqb (getD g c 0) (getD h c 0)
+
+-- Two grids agree on the set s: they have the same value in each of its cells. Cell numbers that are not in both grids are ignored.
+abbrev pub agree : ℕ → List ℕ → List ℕ → Bool
+agree s g h = all (λ c. not (has s c) || alike g h c) (common g h)
+
+-- The difference set of two grids: the cells where they differ.
+abbrev pub differ : List ℕ → List ℕ → ℕ
+differ g h = setOf (λ c. not (alike g h c)) (min 64 (common g h))

@@ -1,0 +1,3 @@
+pub mod Sets
+pub mod Grids
+pub mod Laws
