@@ -1,3 +1,4 @@
 pub mod Bounded
 pub mod SetLaws
 pub mod GridLaws
+pub mod LineLaws

@@ -1,0 +1,13 @@
+//! The text of a question: its lines, read in order, and what each must hold.
+mod lines;
+mod question;
+mod refused;
+mod values;
+
+pub use lines::Line;
+pub use lines::Token;
+pub use lines::next_line;
+pub use question::Kind;
+pub use question::Question;
+pub use question::read_question;
+pub use refused::Refused;
