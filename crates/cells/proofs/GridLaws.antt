@@ -1,21 +1,20 @@
 -- Where two grids agree and differ.
-use mathlib.Core.Path.{_≡_, refl, sym, ap, _∙_}
-use mathlib.Core.Bool.{Bool, true, false, not, _&&_, _||_, cond}
-use mathlib.Core.List.{List}
+use mathlib.Core.Path.{_≡_, refl, sym, ap, ap₂, _∙_}
+use mathlib.Core.Bool.{Bool, true, false, not, _&&_, _||_}
+use mathlib.Core.List.{List, _++_, append-nil}
 use mathlib.Core.Logic.{_⊎_, ⊎-elim}
-use Prim.Native.Nat.{ℕ, _+_, _^_, _<_, _≤_, min}
-use native.Mathlib.Numerals.{add-one}
+use Prim.Native.Nat.{ℕ, _^_, _<_, _≤_, min}
 use native.Mathlib.Omega.{arith}
 use lib.Dec.{eqb}
-use lib.ListN.{getD}
-use lib.Pow.{pow-mono}
+use lib.ListN.{length, getD, take, drop}
+use Rattle.std.proofs.shelf.Lists.{take-all, drop-all, take-at, drop-at, length-take-le}
 use Rattle.std.specs.Orderings.{Decides}
-use Rattle.std.proofs.shelf.Tests.{eqb-true, eq-eqb, ne-eqb, false≢true, true≢false, both-ways, and-parts, and-from, cases-lt, cases-bool, cases-eq, cond-true, cond-false, not-true, not-from-false}
+use Rattle.std.proofs.shelf.Tests.{eqb-true, eq-eqb, false≢true, true≢false, both-ways, and-parts, and-from, cases-lt, cases-bool}
 use Rattle.std.proofs.shelf.Ways.{decides-like, same-from-decides, decides-not}
-use Rattle.cells.specs.Sets.{has, all, setOf, meets, with}
-use Rattle.cells.specs.Grids.{common, alike, agree, differ}
+use Rattle.cells.specs.Sets.{has, meets}
+use Rattle.cells.specs.Grids.{common, alike, agree, differ, inStrip}
 use Rattle.cells.proofs.Bounded.{all-decides}
-use Rattle.cells.proofs.SetLaws.{has-above, has-setOf, setOf-below, is-setOf, meets-decides, with-plus}
+use Rattle.cells.proofs.SetLaws.{has-above, has-setOf, setOf-below, meets-decides}
 
 -- The test at one cell: the cell is not in the set, or the values are equal.
 pub kept-decides : (p : Bool) (x y : ℕ) → Decides (not p || eqb x y) (p ≡ true → x ≡ y)
@@ -67,7 +66,26 @@ agree-unmet s g h l =
         let b = and-parts (has s c) (has (differ g h) c) (w .2) in
         ⊎-elim
         (λ (k : c < min 64 (common g h)).
-          true≢false (sym (b .1) ∙ has-differ g h c k ∙ ap not (eq-eqb (getD g c 0) (getD h c 0) (f c (omega arith) (b .0)))))
+        true≢false (sym (b .1) ∙ has-differ g h c k ∙ ap not (eq-eqb (getD g c 0) (getD h c 0) (f c (omega arith) (b .0)))))
         (λ (k : min 64 (common g h) ≤ c).
-          both-ways (has (differ g h) c) (has-above (differ g h) (min 64 (common g h)) c (differ-below g h) k) (b .1))
+        both-ways (has (differ g h) c) (has-above (differ g h) (min 64 (common g h)) c (differ-below g h) k) (b .1))
         (cases-lt c (min 64 (common g h)))
+
+-- A grid put in a strip.
+pub put-in-strip : (g strip ys : List ℕ) (n : ℕ) → n ≡ min (length g) 64 → length strip ≡ 64 → ys ≡ take n g → ys ++ drop n strip ≡ inStrip g strip
+put-in-strip g strip ys n e l y =
+    ⊎-elim
+    (λ (h : length g < 64).
+    let m : n ≡ length g = omega arith in
+    ap₂ _++_ (y ∙ ap (λ k. take k g) m ∙ take-all (length g) g (omega arith) ∙ sym (take-all 64 g (omega arith))) (ap (λ k. drop k strip) m))
+    (λ (h : 64 ≤ length g).
+    let m : n ≡ 64 = omega arith in
+    ap₂ _++_ (y ∙ ap (λ k. take k g) m) (ap (λ k. drop k strip) m ∙ drop-all 64 strip (omega arith) ∙ sym (drop-all (length g) strip (omega arith))))
+    (cases-lt (length g) 64)
+
+-- Its front is the grid again, and the rest is as it was.
+pub strip-front : (g strip : List ℕ) → length g ≤ 64 → take (length g) (inStrip g strip) ≡ g
+strip-front g strip h = let e = take-all 64 g h in take-at (take 64 g) (drop (length g) strip) (length g) (ap length e) ∙ e
+
+pub strip-rest : (g strip : List ℕ) → length g ≤ 64 → drop (length g) (inStrip g strip) ≡ drop (length g) strip
+strip-rest g strip h = drop-at (take 64 g) (drop (length g) strip) (length g) (ap length (take-all 64 g h))

@@ -57,10 +57,10 @@ twice line g v (suc m) j k a b d p q =
     ⊎-elim
     (λ (e : j ≡ m). omega (arith, last line g v m j e p, once line g v m k (omega arith) q))
     (λ (ne : j ≡ m → ⊥).
-      ⊎-elim
-      (λ (e : k ≡ m). omega (arith, last line g v m k e q, once line g v m j (omega arith) p))
-      (λ (no : k ≡ m → ⊥). let i = twice line g v m j k (omega arith) (omega arith) d p q in omega (arith, count-step line g v m))
-      (cases-eq k m))
+    ⊎-elim
+    (λ (e : k ≡ m). omega (arith, last line g v m k e q, once line g v m j (omega arith) p))
+    (λ (no : k ≡ m → ⊥). let i = twice line g v m j k (omega arith) (omega arith) d p q in omega (arith, count-step line g v m))
+    (cases-eq k m))
     (cases-eq j m)
 
 count-mono : (line : ℕ → ℕ) (g : List ℕ) (v k m : ℕ) → k ≤ m → count line g v k ≤ count line g v m
@@ -79,15 +79,15 @@ pub marked-more : (line : ℕ → ℕ) (g : List ℕ) (seen : List Bool) (k c m 
 marked-more line g seen k c m e n l f h v b =
     ⊎-elim
     (λ (d : v ≡ getD g c 0).
-      let z : count line g v k ≡ 0 =
-            h v b ∙ ap (λ (u : ℕ). cond (getD seen u false) 1 0) d ∙ ap (λ (t : Bool). cond t 1 0) f in
-      let a : count line g v (k + 1) ≡ 1 = omega (arith, count-hit line g v k c e (sym d)) in
-      a
-      ∙ sym (ap (λ (u : ℕ). cond (getD (set seen (getD g c 0) true) u false) 1 0) d
-        ∙ ap (λ (t : Bool). cond t 1 0) (getD-set-same seen (getD g c 0) true false (omega arith))))
+    let z : count line g v k ≡ 0 =
+    h v b ∙ ap (λ (u : ℕ). cond (getD seen u false) 1 0) d ∙ ap (λ (t : Bool). cond t 1 0) f in
+    let a : count line g v (k + 1) ≡ 1 = omega (arith, count-hit line g v k c e (sym d)) in
+    a
+    ∙ sym (ap (λ (u : ℕ). cond (getD (set seen (getD g c 0) true) u false) 1 0) d
+    ∙ ap (λ (t : Bool). cond t 1 0) (getD-set-same seen (getD g c 0) true false (omega arith))))
     (λ (d : v ≡ getD g c 0 → ⊥).
-      count-miss line g v k c e (λ q. d (sym q)) ∙ zero-add (count line g v k) ∙ h v b
-      ∙ sym (ap (λ (t : Bool). cond t 1 0) (getD-set-other seen (getD g c 0) v true false d)))
+    count-miss line g v k c e (λ q. d (sym q)) ∙ zero-add (count line g v k) ∙ h v b
+    ∙ sym (ap (λ (t : Bool). cond t 1 0) (getD-set-other seen (getD g c 0) v true false d)))
     (cases-eq v (getD g c 0))
 
 -- A marked value that comes once more is there twice.
@@ -134,13 +134,13 @@ hit-one x zero p l = omega arith
 hit-one x (suc n) p l =
     ⊎-elim
     (λ (h : x ≡ n + 1).
-      let e : hit x n ≡ 1 = ap (λ (b : Bool). cond b 1 0) (eq-eqb x (n + 1) h) in
-      let i = hit-none x n (omega arith) in
-      omega arith)
+    let e : hit x n ≡ 1 = ap (λ (b : Bool). cond b 1 0) (eq-eqb x (n + 1) h) in
+    let i = hit-none x n (omega arith) in
+    omega arith)
     (λ (h : x ≡ n + 1 → ⊥).
-      let e : hit x n ≡ 0 = ap (λ (b : Bool). cond b 1 0) (ne-eqb x (n + 1) h) in
-      let i = hit-one x n p (omega arith) in
-      omega arith)
+    let e : hit x n ≡ 0 = ap (λ (b : Bool). cond b 1 0) (ne-eqb x (n + 1) h) in
+    let i = hit-one x n p (omega arith) in
+    omega arith)
     (cases-eq x (n + 1))
 
 -- the counts of the values of a line's first k places add up to k
@@ -151,8 +151,8 @@ counts line g n (suc k) h =
     let r = and-parts (leb 1 (getD g (line k) 0)) (leb (getD g (line k) 0) n) (h k (omega arith)) in
     let i = counts line g n k (λ j l. h j (omega arith)) in
     let s =
-          total-same (λ v. count line g (v + 1) (suc k)) (λ v. hit (getD g (line k) 0) v + count line g (v + 1) k) n
-          (λ v. count-step line g (v + 1) k) in
+    total-same (λ v. count line g (v + 1) (suc k)) (λ v. hit (getD g (line k) 0) v + count line g (v + 1) k) n
+    (λ v. count-step line g (v + 1) k) in
     let e = total-add (hit (getD g (line k) 0)) (λ v. count line g (v + 1) k) n in
     let o = hit-one (getD g (line k) 0) n (leb-true 1 _ (r .0)) (leb-true _ n (r .1)) in
     s ∙ e ∙ omega arith
@@ -184,9 +184,10 @@ apart-holds n line g a =
 pub marked-apart : (n : ℕ) (line : ℕ → ℕ) (g : List ℕ) (seen : List Bool) (k m : ℕ) → k ≡ n → n < m
     → ((j : ℕ) → j < k → isValue n (getD g (line j) 0) ≡ true)
     → ((v : ℕ) → v < m → count line g v k ≡ cond (getD seen v false) 1 0) → Apart n line g
-marked-apart n line g seen k m e l r h =
-    ((λ j b. r j (omega arith)),
-      (λ v b. let d = ap (count line g (v + 1)) e in omega (arith, d, h (v + 1) (omega arith), at-most (getD seen (v + 1) false))))
+marked-apart n line g seen k m e l r h = (
+  (λ j b. r j (omega arith)),
+  (λ v b. let d = ap (count line g (v + 1)) e in omega (arith, d, h (v + 1) (omega arith), at-most (getD seen (v + 1) false))),
+)
 
 -- A grid keeps the rules if it has n × n cells, each on some line, and each line is passed.
 pub keeps-from : (n lines : ℕ) (line : ℕ → ℕ → ℕ) (g : List ℕ) → length g ≡ n * n
@@ -196,9 +197,9 @@ unfolding keeps
 keeps-from n lines line g e on a =
     and-from _ _ (eq-eqb (length g) (n * n) e)
     (and-from _ _
-      (all-from (λ c. isValue n (getD g c 0)) (n * n)
-        (λ c l. let w = on c l in ap (λ x. isValue n (getD g x 0)) (sym (w .4)) ∙ a (w .0) (w .2) .0 (w .1) (w .3)))
-      (all-from (λ l. holdsEach n (line l) g) lines (λ l b. apart-holds n (line l) g (a l b))))
+    (all-from (λ c. isValue n (getD g c 0)) (n * n)
+    (λ c l. let w = on c l in ap (λ x. isValue n (getD g x 0)) (sym (w .4)) ∙ a (w .0) (w .2) .0 (w .1) (w .3)))
+    (all-from (λ l. holdsEach n (line l) g) lines (λ l b. apart-holds n (line l) g (a l b))))
 
 -- What is known of a grid that keeps the rules.
 keeps-parts : (n lines : ℕ) (line : ℕ → ℕ → ℕ) (g : List ℕ) → keeps n lines line g ≡ true

@@ -136,7 +136,7 @@ top-plus : (s k : ℕ) → s < 2 ^ k → bitOr s (2 ^ k) ≡ s + 2 ^ k
 top-plus s k l =
     or-disjoint s (2 ^ k)
     (same-cells (suc k) (bitAnd s (2 ^ k)) 0 (omega (arith, and-le-l s (2 ^ k), two-pow-succ k)) (pow-pos (suc k))
-      (λ c _. has-and s (2 ^ k) c ∙ ap (λ x. has s c && x) (has-one k c) ∙ apart c ∙ sym (has-above 0 0 c (omega arith) (omega arith))))
+    (λ c _. has-and s (2 ^ k) c ∙ ap (λ x. has s c && x) (has-one k c) ∙ apart c ∙ sym (has-above 0 0 c (omega arith) (omega arith))))
   where
     apart : (c : ℕ) → (has s c && eqb c k) ≡ false
     apart c =
@@ -149,9 +149,9 @@ step : (p : ℕ → Bool) (k c : ℕ) → has (setOf p (suc k)) c ≡ (has (setO
 unfolding setOf
 step p k c =
     elim (p k) as (λ v. has (setOf p k + cond v (2 ^ k) 0) c ≡ (has (setOf p k) c || (v && eqb c k))) [
-      true ↦ ap (λ x. has x c) (sym (top-plus (setOf p k) k (setOf-below p k))) ∙ has-or (setOf p k) (2 ^ k) c
-        ∙ ap (λ x. has (setOf p k) c || x) (has-one k c)
-    | false ↦ (let z : setOf p k + 0 ≡ setOf p k = omega arith in ap (λ x. has x c) z ∙ sym (or-false (has (setOf p k) c)))
+      | true ↦ ap (λ x. has x c) (sym (top-plus (setOf p k) k (setOf-below p k))) ∙ has-or (setOf p k) (2 ^ k) c
+          ∙ ap (λ x. has (setOf p k) c || x) (has-one k c)
+      | false ↦ (let z : setOf p k + 0 ≡ setOf p k = omega arith in ap (λ x. has x c) z ∙ sym (or-false (has (setOf p k) c)))
     ]
 
 pub has-setOf : (p : ℕ → Bool) (k c : ℕ) → c < k → has (setOf p k) c ≡ p c
@@ -160,10 +160,10 @@ has-setOf p (suc k) c l =
     step p k c
     ∙ ⊎-elim
     (λ (e : c ≡ k).
-      last (has (setOf p k) c) (p k) (eqb c k) (has-above (setOf p k) k c (setOf-below p k) (omega arith)) (eq-eqb c k e) ∙ ap p (sym e))
+    last (has (setOf p k) c) (p k) (eqb c k) (has-above (setOf p k) k c (setOf-below p k) (omega arith)) (eq-eqb c k e) ∙ ap p (sym e))
     (⊎-elim
-      (λ (h : c < k). before (has (setOf p k) c) (p k) (eqb c k) (ne-eqb c k (λ e. omega arith)) ∙ has-setOf p k c h)
-      (λ (h : k < c). absurd (omega arith)))
+    (λ (h : c < k). before (has (setOf p k) c) (p k) (eqb c k) (ne-eqb c k (λ e. omega arith)) ∙ has-setOf p k c h)
+    (λ (h : k < c). absurd (omega arith)))
     (cases-order c k)
   where
     last : (x y e : Bool) → x ≡ false → e ≡ true → (x || (y && e)) ≡ y
@@ -191,7 +191,7 @@ pub without-code : (s c : ℕ) → s < 2 ^ 64 → c < 64 → bitAnd s (2 ^ 64 - 
 without-code s c l h =
     is-setOf (bitAnd s (2 ^ 64 - 1 - 2 ^ c)) (λ d. has s d && not (eqb d c)) 64 (omega (arith, and-le-l s (2 ^ 64 - 1 - 2 ^ c)))
     (λ d k. has-and s (2 ^ 64 - 1 - 2 ^ c) d
-      ∙ ap (λ x. has s d && x) (has-not 64 (2 ^ c) (2 ^ 64 - 1 - 2 ^ c) d (omega (arith, pow-below c 64 h)) k ∙ ap not (has-one c d)))
+    ∙ ap (λ x. has s d && x) (has-not 64 (2 ^ c) (2 ^ 64 - 1 - 2 ^ c) d (omega (arith, pow-below c 64 h)) k ∙ ap not (has-one c d)))
 
 pub without-past : (s c : ℕ) → s < 2 ^ 64 → 64 ≤ c → s ≡ without s c
 without-past s c l h =
@@ -201,7 +201,7 @@ has-ones : (n c : ℕ) → has (2 ^ n - 1) c ≡ ltb c n
 has-ones n c =
     ⊎-elim
     (λ (h : c < n).
-      has-not n 0 (2 ^ n - 1) c (omega (arith, pow-pos n)) h ∙ ap not (has-above 0 0 c (omega arith) (omega arith)) ∙ sym (lt-ltb c n h))
+    has-not n 0 (2 ^ n - 1) c (omega (arith, pow-pos n)) h ∙ ap not (has-above 0 0 c (omega arith) (omega arith)) ∙ sym (lt-ltb c n h))
     (λ (h : n ≤ c). has-above (2 ^ n - 1) n c (omega (arith, pow-pos n)) h ∙ sym (le-ltb c n h))
     (cases-lt c n)
 
@@ -219,11 +219,12 @@ meets-decides s t = some-decides (λ c. has s c && has t c) 64
 
 pub meets-code : (s t : ℕ) → s < 2 ^ 64 → not (eqb (bitAnd s t) 0) ≡ meets s t
 meets-code s t l =
-    same-from-decides (not (eqb (bitAnd s t) 0)) (meets s t) (decides-not (eqb (bitAnd s t) 0) (decides-eqb (bitAnd s t) 0))
-    ((λ m e.
-      let w = meets-decides s t .0 m in
-      false≢true (sym (has-above 0 0 (w .0) (omega arith) (omega arith)) ∙ ap (λ x. has x (w .0)) (sym e) ∙ has-and s t (w .0) ∙ w .2)),
-    λ ne. ⊎-elim (λ (m : meets s t ≡ true). m) (λ (f : meets s t ≡ false). absurd (ne (empty f))) (cases-bool (meets s t)))
+    same-from-decides (not (eqb (bitAnd s t) 0)) (meets s t) (decides-not (eqb (bitAnd s t) 0) (decides-eqb (bitAnd s t) 0)) (
+      (λ m e.
+          let w = meets-decides s t .0 m in
+          false≢true (sym (has-above 0 0 (w .0) (omega arith) (omega arith)) ∙ ap (λ x. has x (w .0)) (sym e) ∙ has-and s t (w .0) ∙ w .2)),
+      λ ne. ⊎-elim (λ (m : meets s t ≡ true). m) (λ (f : meets s t ≡ false). absurd (ne (empty f))) (cases-bool (meets s t)),
+    )
   where
     empty : meets s t ≡ false → bitAnd s t ≡ 0
     empty f =

@@ -1,9 +1,9 @@
 -- Grids. A grid is the list of its cells' values, cell number 0 first.
 use mathlib.Core.Bool.{Bool, not, _||_}
-use mathlib.Core.List.{List}
+use mathlib.Core.List.{List, _++_}
 use Prim.Native.Nat.{ℕ, min}
 use lib.Dec.{eqb}
-use lib.ListN.{length, getD}
+use lib.ListN.{length, getD, take, drop}
 use Rattle.cells.specs.Sets.{has, all, setOf}
 
 -- How many cells two grids have in common: those below both lengths.
@@ -21,3 +21,7 @@ agree s g h = all (λ c. not (has s c) || alike g h c) (common g h)
 -- The difference set of two grids: the cells where they differ.
 abbrev pub differ : List ℕ → List ℕ → ℕ
 differ g h = setOf (λ c. not (alike g h c)) (min 64 (common g h))
+
+-- A strip of 64 bytes after a grid was put in it: its first bytes are the grid's values, one for each cell below 64, and the rest is as it was.
+abbrev pub inStrip : List ℕ → List ℕ → List ℕ
+inStrip g strip = take 64 g ++ drop (length g) strip

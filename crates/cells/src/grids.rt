@@ -1,7 +1,7 @@
 ghost use mathlib.Core.Path.{_≡_};
 ghost use mathlib.Core.Bool.{not};
 ghost use Rattle.cells.specs.Sets.{meets};
-ghost use Rattle.cells.specs.Grids.{agree, differ};
+ghost use Rattle.cells.specs.Grids.{agree, differ, inStrip};
 use crate::sets::CellSet;
 use crate::sets::has;
 use crate::sets::with;
@@ -32,4 +32,12 @@ pub fn difference(one: &[u8], other: &[u8]) -> CellSet
         }
     }
     set
+}
+
+/// Puts the grid's values in the first bytes of the strip, at most 64 of them; the rest of the strip stays as it is.
+pub fn put_in_strip(grid: &[u8], strip: &mut [u8; 64])
+    ensures { λ _. ⌜ now (strip .exit) ≡ inStrip (now (grid .entry)) (now (strip .entry)) ⌝ }
+{
+    let count = grid.len().min(64);
+    strip[0..count].copy_from_slice(&grid[0..count]);
 }

@@ -6,5 +6,4 @@ pub fn cell_laws()
     ensures subset { λ _. ⌜ Subset-number ⌝ }
     ensures counted { λ _. ⌜ One-more ⌝ }
     ensures unmet { λ _. ⌜ Agree-unless-met ⌝ }
-{
-}
+{}

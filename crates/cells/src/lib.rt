@@ -6,6 +6,7 @@ mod sets;
 
 pub use grids::agree;
 pub use grids::difference;
+pub use grids::put_in_strip;
 pub use laws::cell_laws;
 pub use refusal::Refusal;
 pub use refusal::RefusalDebug;

@@ -29,7 +29,11 @@ pub fn without(set: CellSet, cell: usize) -> CellSet
 pub fn all_below(count: usize) -> CellSet
     ensures { λ r. ⌜ r ≡ allBelow count ⌝ }
 {
-    if count < 64 { (1 << count) - 1 } else { u64::MAX }
+    if count < 64 {
+        (1 << count) - 1
+    } else {
+        u64::MAX
+    }
 }
 
 /// Whether the two sets share a cell.

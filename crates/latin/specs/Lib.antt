@@ -1,1 +1,3 @@
 pub mod Latin
+pub mod Puzzle
+pub mod Search

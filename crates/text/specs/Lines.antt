@@ -53,7 +53,7 @@ abbrev pub tell : List ℕ → Option Told
 tell line =
     under kind (after (codes "kind=") line)
     (under size (after (codes "size=") line)
-      (under grid (after (codes "grid=") line) (under map (after (codes "map=") line) (under clues (after (codes "clues=") line) None))))
+    (under grid (after (codes "grid=") line) (under map (after (codes "map=") line) (under clues (after (codes "clues=") line) None))))
 
 abbrev pub tokenShown : Token → Told
 tokenShown (Kind v) = kind (v .now)

@@ -52,7 +52,10 @@ fn tell(line: &[u8]) -> Option<Token<'_>>
 pub fn next_line(text: &[u8], number: usize) -> Result<(Line<'_>, &[u8]), Refused>
     ensures { λ r. ⌜ lineShown r ≡ nextLine number (now (text .entry)) ⌝ }
 {
-    let refused = Refused { refusal: Refusal::Form, line: number };
+    let refused = Refused {
+        refusal: Refusal::Form,
+        line: number,
+    };
     let Some((line, rest)) = split_line(text) else {
         return Err(refused);
     };

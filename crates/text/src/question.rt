@@ -31,8 +31,17 @@ fn read_kind(text: &[u8]) -> Result<(Kind, &[u8]), Refused>
     ensures { λ r. ⌜ kindShown r ≡ kindLine (now (text .entry)) ⌝ }
 {
     match next_line(text, 1)? {
-        (Line { token: Token::Kind(b"latin"), .. }, rest) => Ok((Kind::Latin, rest)),
-        (Line { number, .. }, _) => Err(Refused { refusal: Refusal::Form, line: number }),
+        (
+            Line {
+                token: Token::Kind(b"latin"),
+                ..
+            },
+            rest,
+        ) => Ok((Kind::Latin, rest)),
+        (Line { number, .. }, _) => Err(Refused {
+            refusal: Refusal::Form,
+            line: number,
+        }),
     }
 }
 
@@ -42,12 +51,21 @@ fn read_size(text: &[u8]) -> Result<(usize, &[u8]), Refused>
 {
     let (line, rest) = next_line(text, 2)?;
     let Token::Size(value) = line.token else {
-        return Err(Refused { refusal: Refusal::Form, line: line.number });
+        return Err(Refused {
+            refusal: Refusal::Form,
+            line: line.number,
+        });
     };
     match read_digit(value) {
         Some(size) if latin::is_size(size) => Ok((size, rest)),
-        Some(_) => Err(Refused { refusal: Refusal::Size, line: line.number }),
-        None => Err(Refused { refusal: Refusal::Form, line: line.number }),
+        Some(_) => Err(Refused {
+            refusal: Refusal::Size,
+            line: line.number,
+        }),
+        None => Err(Refused {
+            refusal: Refusal::Form,
+            line: line.number,
+        }),
     }
 }
 
@@ -56,8 +74,17 @@ fn read_grid(text: &[u8], cells: usize) -> Result<(&[u8], &[u8]), Refused>
     ensures { λ r. ⌜ gridShown r ≡ gridLine cells (now (text .entry)) ⌝ }
 {
     match next_line(text, 3)? {
-        (Line { token: Token::Grid(value), .. }, rest) if value.len() == cells && all_digits(value) => Ok((value, rest)),
-        (Line { number, .. }, _) => Err(Refused { refusal: Refusal::Form, line: number }),
+        (
+            Line {
+                token: Token::Grid(value),
+                ..
+            },
+            rest,
+        ) if value.len() == cells && all_digits(value) => Ok((value, rest)),
+        (Line { number, .. }, _) => Err(Refused {
+            refusal: Refusal::Form,
+            line: number,
+        }),
     }
 }
 
@@ -66,8 +93,17 @@ fn read_map(text: &[u8]) -> Result<&[u8], Refused>
     ensures { λ r. ⌜ mapShown r ≡ mapLine (now (text .entry)) ⌝ }
 {
     match next_line(text, 4)? {
-        (Line { token: Token::Map(b"-"), .. }, rest) => Ok(rest),
-        (Line { number, .. }, _) => Err(Refused { refusal: Refusal::Form, line: number }),
+        (
+            Line {
+                token: Token::Map(b"-"),
+                ..
+            },
+            rest,
+        ) => Ok(rest),
+        (Line { number, .. }, _) => Err(Refused {
+            refusal: Refusal::Form,
+            line: number,
+        }),
     }
 }
 
@@ -76,7 +112,10 @@ fn read_clues(text: &[u8], cells: usize) -> Result<(CellSet, &[u8]), Refused>
     ensures { λ r. ⌜ cluesShown r ≡ cluesLine cells (now (text .entry)) ⌝ }
 {
     let (line, rest) = next_line(text, 5)?;
-    let refused = Refused { refusal: Refusal::Form, line: line.number };
+    let refused = Refused {
+        refusal: Refusal::Form,
+        line: line.number,
+    };
     let Token::Clues(value) = line.token else {
         return Err(refused);
     };
@@ -93,7 +132,14 @@ fn read_clues(text: &[u8], cells: usize) -> Result<(CellSet, &[u8]), Refused>
 fn read_end(text: &[u8]) -> Result<(), Refused>
     ensures { λ r. ⌜ endShown r ≡ textEnd (now (text .entry)) ⌝ }
 {
-    if text.is_empty() { Ok(()) } else { Err(Refused { refusal: Refusal::Form, line: 6 }) }
+    if text.is_empty() {
+        Ok(())
+    } else {
+        Err(Refused {
+            refusal: Refusal::Form,
+            line: 6,
+        })
+    }
 }
 
 /// The question that the text asks, or the first line that is not as it must be.
@@ -106,5 +152,10 @@ pub fn read_question(text: &[u8]) -> Result<Question<'_>, Refused>
     let rest = read_map(rest)?;
     let (clues, rest) = read_clues(rest, size * size)?;
     read_end(rest)?;
-    Ok(Question { kind, size, grid, clues })
+    Ok(Question {
+        kind,
+        size,
+        grid,
+        clues,
+    })
 }

@@ -15,8 +15,8 @@ returns-then-one-cell c =
     let g = c .args .one .now in
     let h = c .args .other .now in
     let apart : false ≡ agree s g h =
-          fails (agree s g h)
-          (λ a. c .if-one-cell .taken (agree-decides s g h .0 a (c .loop-cell .cell) (omega arith) (sym (c .if-has .ensures tt)))) in
+    fails (agree s g h)
+    (λ a. c .if-one-cell .taken (agree-decides s g h .0 a (c .loop-cell .cell) (omega arith) (sym (c .if-has .ensures tt)))) in
     record { value = apart; unmet = apart ∙ agree-unmet s g h (omega arith) }
 
 pub returns : need.returns
@@ -31,7 +31,7 @@ pub loop-cell-again : need.loop-cell-again
 loop-cell-again c =
     below-more _ _ (c .loop-cell .inv)
     (λ i.
-      elim (c .else-has .came) [
-        else-has·by·then-has·else-one-cell w ↦ w .if-one-cell .left
+    elim (c .else-has .came) [
+      | else-has·by·then-has·else-one-cell w ↦ w .if-one-cell .left
       | else-has·by·else-has w ↦ absurd (both-ways _ (sym (w .if-has .ensures tt)) i)
-      ])
+    ])

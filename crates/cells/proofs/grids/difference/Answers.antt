@@ -17,10 +17,10 @@ loop-cell-again c =
     let p : ℕ → Bool = λ k. not (alike (c .args .one .now) (c .args .other .now) k) in
     let k = c .loop-cell .cell in
     elim (c .if-one-cell .came) [
-      then-one-cell w ↦
-        w .set-is ∙ w .with-set .ensures ∙ ap (λ x. with x k) (c .loop-cell .inv)
-        ∙ setOf-hit p k (omega arith) (ap not (ne-eqb _ _ (w .if-one-cell .taken)))
-    | else-one-cell w ↦ w .set-is ∙ c .loop-cell .inv ∙ setOf-miss p k (ap not (eq-eqb _ _ (w .if-one-cell .left)))
+      | then-one-cell w ↦
+          w .set-is ∙ w .with-set .ensures ∙ ap (λ x. with x k) (c .loop-cell .inv)
+          ∙ setOf-hit p k (omega arith) (ap not (ne-eqb _ _ (w .if-one-cell .taken)))
+      | else-one-cell w ↦ w .set-is ∙ c .loop-cell .inv ∙ setOf-miss p k (ap not (eq-eqb _ _ (w .if-one-cell .left)))
     ]
 
 pub returns : need.returns

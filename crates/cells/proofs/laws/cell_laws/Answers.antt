@@ -8,5 +8,5 @@ returns c =
       same = same-cells 64;
       subset = λ s t p q w. subset-number 64 s t p q (λ c _ h. w c h);
       counted = one-more;
-      unmet = agree-unmet
+      unmet = agree-unmet;
     }
