@@ -1,0 +1,25 @@
+-- The rival that a search left in a strip.
+use mathlib.Core.Path.{_≡_, sym, ap, _∙_}
+use mathlib.Core.List.{List}
+use Prim.Native.Nat.{ℕ, _<_, _≤_}
+use native.Mathlib.Omega.{arith}
+use lib.ListN.{length, getD, take}
+use Rattle.cells.proofs.GridLaws.{strip-front}
+use Rattle.latin.specs.declared.puzzle.Latin.{Latin}
+use Rattle.latin.specs.Puzzle.{cellCount}
+use Rattle.latin.specs.Search.{Holds}
+use Rattle.latin.proofs.Judging.{finished-length, finished-value}
+
+-- It is the front of the strip.
+pub front : (p : Latin) (clues : ℕ) (before after : List ℕ) (n : ℕ) → n ≡ cellCount p → (h : Holds p clues before after) → take n after ≡ h .0
+front p clues before after n e h =
+    let l = finished-length (p .size) (h .0) (h .1 .0 .0) in
+    let m : n ≡ length (h .0) = omega arith in
+    ap (λ k. take k after) m ∙ ap (take (length (h .0))) (h .2) ∙ strip-front (h .0) before (omega (arith, p .square))
+
+-- Its values are single digits.
+pub digits : (p : Latin) (clues : ℕ) (before after : List ℕ) → (h : Holds p clues before after) → (k : ℕ) → k < length (h .0) → getD (h .0) k 0 < 10
+digits p clues before after h k l =
+    let e = finished-length (p .size) (h .0) (h .1 .0 .0) in
+    let v = finished-value (p .size) (h .0) (h .1 .0 .0) k (omega arith) in
+    omega (arith, v .1, p .small)

@@ -1,0 +1,7 @@
+use mathlib.Core.Path.{_≡_}
+use Rattle.std.specs.Of.Vec.{vec-items}
+use Rattle.uniqueness.specs.Reply.{marksOf}
+use Rattle.uniqueness.proofs.write.marks_of.Given as given
+
+abbrev pub Inv-loop-cell : given.InvT-loop-cell
+Inv-loop-cell l = vec-items (l .marks) ≡ marksOf (l .set) (l .cell)
