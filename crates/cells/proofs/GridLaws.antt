@@ -1,13 +1,13 @@
 -- Where two grids agree and differ.
-use mathlib.Core.Path.{_≡_, refl, sym, ap, ap₂, _∙_}
+use mathlib.Core.Path.{_≡_, refl, sym, ap, _∙_}
 use mathlib.Core.Bool.{Bool, true, false, not, _&&_, _||_}
-use mathlib.Core.List.{List, _++_, append-nil}
+use mathlib.Core.List.{List}
 use mathlib.Core.Logic.{_⊎_, ⊎-elim}
 use Prim.Native.Nat.{ℕ, _^_, _<_, _≤_, min}
 use native.Mathlib.Omega.{arith}
 use lib.Dec.{eqb}
 use lib.ListN.{length, getD, take, drop}
-use Rattle.std.proofs.shelf.Lists.{take-all, drop-all, take-at, drop-at, length-take-le}
+use Rattle.std.proofs.shelf.Lists.{take-all, take-at}
 use Rattle.std.specs.Orderings.{Decides}
 use Rattle.std.proofs.shelf.Tests.{eqb-true, eq-eqb, false≢true, true≢false, both-ways, and-parts, and-from, cases-lt, cases-bool}
 use Rattle.std.proofs.shelf.Ways.{decides-like, same-from-decides, decides-not}
@@ -31,11 +31,11 @@ agree-decides s g h =
     (all-decides (λ c. not (has s c) || alike g h c) (common g h))
 
 -- A cell is in the difference set if both grids have it and they differ there.
-pub has-differ : (g h : List ℕ) (c : ℕ) → c < min 64 (common g h) → has (differ g h) c ≡ not (alike g h c)
-has-differ g h c l = has-setOf (λ d. not (alike g h d)) (min 64 (common g h)) c l
+pub has-differ : (g h : List ℕ) (c : ℕ) → c < min (common g h) 64 → has (differ g h) c ≡ not (alike g h c)
+has-differ g h c l = has-setOf (λ d. not (alike g h d)) (min (common g h) 64) c l
 
-pub differ-below : (g h : List ℕ) → differ g h < 2 ^ min 64 (common g h)
-differ-below g h = setOf-below (λ d. not (alike g h d)) (min 64 (common g h))
+pub differ-below : (g h : List ℕ) → differ g h < 2 ^ min (common g h) 64
+differ-below g h = setOf-below (λ d. not (alike g h d)) (min (common g h) 64)
 
 -- Two grids agree on a set exactly when it does not meet their difference set.
 pub agree-unmet : (s : ℕ) (g h : List ℕ) → s < 2 ^ 64 → agree s g h ≡ not (meets s (differ g h))
@@ -43,7 +43,7 @@ agree-unmet s g h l =
     same-from-decides (agree s g h) (not (meets s (differ g h))) (agree-decides s g h)
     (decides-like (not (meets s (differ g h))) equal shared (decides-not (meets s (differ g h)) (meets-decides s (differ g h))))
   where
-    inside : (c : ℕ) → c < common g h → has s c ≡ true → c < min 64 (common g h)
+    inside : (c : ℕ) → c < common g h → has s c ≡ true → c < min (common g h) 64
     inside c k i =
         ⊎-elim
         (λ (m : c < 64). omega arith)
@@ -65,27 +65,16 @@ agree-unmet s g h l =
         let c = w .0 in
         let b = and-parts (has s c) (has (differ g h) c) (w .2) in
         ⊎-elim
-        (λ (k : c < min 64 (common g h)).
+        (λ (k : c < min (common g h) 64).
         true≢false (sym (b .1) ∙ has-differ g h c k ∙ ap not (eq-eqb (getD g c 0) (getD h c 0) (f c (omega arith) (b .0)))))
-        (λ (k : min 64 (common g h) ≤ c).
-        both-ways (has (differ g h) c) (has-above (differ g h) (min 64 (common g h)) c (differ-below g h) k) (b .1))
-        (cases-lt c (min 64 (common g h)))
+        (λ (k : min (common g h) 64 ≤ c).
+        both-ways (has (differ g h) c) (has-above (differ g h) (min (common g h) 64) c (differ-below g h) k) (b .1))
+        (cases-lt c (min (common g h) 64))
 
--- A grid put in a strip.
-pub put-in-strip : (g strip ys : List ℕ) (n : ℕ) → n ≡ min (length g) 64 → length strip ≡ 64 → ys ≡ take n g → ys ++ drop n strip ≡ inStrip g strip
-put-in-strip g strip ys n e l y =
-    ⊎-elim
-    (λ (h : length g < 64).
-    let m : n ≡ length g = omega arith in
-    ap₂ _++_ (y ∙ ap (λ k. take k g) m ∙ take-all (length g) g (omega arith) ∙ sym (take-all 64 g (omega arith))) (ap (λ k. drop k strip) m))
-    (λ (h : 64 ≤ length g).
-    let m : n ≡ 64 = omega arith in
-    ap₂ _++_ (y ∙ ap (λ k. take k g) m) (ap (λ k. drop k strip) m ∙ drop-all 64 strip (omega arith) ∙ sym (drop-all (length g) strip (omega arith))))
-    (cases-lt (length g) 64)
-
--- Its front is the grid again, and the rest is as it was.
+-- The front of a strip that a grid was put in is the grid again.
 pub strip-front : (g strip : List ℕ) → length g ≤ 64 → take (length g) (inStrip g strip) ≡ g
-strip-front g strip h = let e = take-all 64 g h in take-at (take 64 g) (drop (length g) strip) (length g) (ap length e) ∙ e
-
-pub strip-rest : (g strip : List ℕ) → length g ≤ 64 → drop (length g) (inStrip g strip) ≡ drop (length g) strip
-strip-rest g strip h = drop-at (take 64 g) (drop (length g) strip) (length g) (ap length (take-all 64 g h))
+strip-front g strip h =
+    let n = min (length g) 64 in
+    let e : min (length g) 64 ≡ length g = omega arith in
+    let f = ap (λ k. take k g) e ∙ take-all (length g) g (omega arith) in
+    take-at (take n g) (drop n strip) (length g) (ap length f) ∙ f

@@ -18,10 +18,18 @@ alike g h c = eqb (getD g c 0) (getD h c 0)
 abbrev pub agree : ℕ → List ℕ → List ℕ → Bool
 agree s g h = all (λ c. not (has s c) || alike g h c) (common g h)
 
+-- The set of those cells below k where two grids differ.
+abbrev pub differBelow : ℕ → List ℕ → List ℕ → ℕ
+differBelow k g h = setOf (λ c. not (alike g h c)) k
+
 -- The difference set of two grids: the cells where they differ.
 abbrev pub differ : List ℕ → List ℕ → ℕ
-differ g h = setOf (λ c. not (alike g h c)) (min 64 (common g h))
+differ g h = differBelow (min (common g h) 64) g h
 
--- A strip of 64 bytes after a grid was put in it: its first bytes are the grid's values, one for each cell below 64, and the rest is as it was.
+-- A strip whose first k bytes are those of a grid, and whose other bytes are as they were.
+abbrev pub withFront : ℕ → List ℕ → List ℕ → List ℕ
+withFront k g strip = take k g ++ drop k strip
+
+-- A strip of 64 bytes after a grid was put in it.
 abbrev pub inStrip : List ℕ → List ℕ → List ℕ
-inStrip g strip = take 64 g ++ drop (length g) strip
+inStrip g strip = withFront (min (length g) 64) g strip

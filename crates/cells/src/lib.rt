@@ -1,4 +1,5 @@
 //! Sets of cells, where two grids agree and differ, and the refusals that every part shares.
+mod bits;
 mod grids;
 mod laws;
 mod refusal;
@@ -15,6 +16,5 @@ pub use refusal::RefusalPartialEq;
 pub use sets::CellSet;
 pub use sets::all_below;
 pub use sets::has;
-pub use sets::meets;
 pub use sets::with;
 pub use sets::without;

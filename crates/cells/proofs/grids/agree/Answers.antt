@@ -1,13 +1,10 @@
 use mathlib.Core.Path.{_≡_, sym, ap, _∙_}
 use mathlib.Core.Bool.{true, false}
 use native.Mathlib.Omega.{arith}
-use borrow.Author.Count.{below-more}
-use Rattle.std.proofs.shelf.Tests.{both-ways}
 use Rattle.cells.specs.Grids.{agree}
 use Rattle.cells.proofs.Bounded.{fails}
 use Rattle.cells.proofs.GridLaws.{agree-decides, agree-unmet}
 use Rattle.cells.proofs.grids.agree.Needs as need
-use Rattle.cells.proofs.grids.agree.Needs.{else-has·by·then-has·else-one-cell, else-has·by·else-has}
 
 pub returns-then-one-cell : need.returns-then-one-cell
 returns-then-one-cell c =
@@ -16,7 +13,7 @@ returns-then-one-cell c =
     let h = c .args .other .now in
     let apart : false ≡ agree s g h =
     fails (agree s g h)
-    (λ a. c .if-one-cell .taken (agree-decides s g h .0 a (c .loop-cell .cell) (omega arith) (sym (c .if-has .ensures tt)))) in
+    (λ a. let same = agree-decides s g h .0 a (c .loop-cell .cell) (omega arith) (sym (c .if-has .ensures tt)) in omega arith) in
     record { value = apart; unmet = apart ∙ agree-unmet s g h (omega arith) }
 
 pub returns : need.returns
@@ -26,12 +23,3 @@ returns c =
     let h = c .args .other .now in
     let same : true ≡ agree s g h = sym (agree-decides s g h .1 (λ k l i. c .loop-cell .inv k (omega arith) i)) in
     record { value = same; unmet = same ∙ agree-unmet s g h (omega arith) }
-
-pub loop-cell-again : need.loop-cell-again
-loop-cell-again c =
-    below-more _ _ (c .loop-cell .inv)
-    (λ i.
-    elim (c .else-has .came) [
-      | else-has·by·then-has·else-one-cell w ↦ w .if-one-cell .left
-      | else-has·by·else-has w ↦ absurd (both-ways _ (sym (w .if-has .ensures tt)) i)
-    ])

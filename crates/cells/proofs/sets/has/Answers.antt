@@ -1,11 +1,8 @@
 use mathlib.Core.Path.{sym, _∙_}
 use native.Mathlib.Omega.{arith}
 use Rattle.std.proofs.shelf.Tests.{le-ltb}
-use Rattle.cells.proofs.SetLaws.{has-code, has-above}
+use Rattle.cells.proofs.SetLaws.{has-above}
 use Rattle.cells.proofs.sets.has.Needs as need
-
-pub returns-then-cell-lt64 : need.returns-then-cell-lt64
-returns-then-cell-lt64 c = has-code (c .args .set) (c .args .cell)
 
 pub returns-else-cell-lt64 : need.returns-else-cell-lt64
 returns-else-cell-lt64 c =

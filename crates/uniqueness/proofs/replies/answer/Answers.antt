@@ -24,11 +24,13 @@ returns-in-Rival c =
     let e : c .count .result - 0 ≡ cellCount (c .args .puzzle .now) = omega arith in
     made-weaker (c .rival-lines .result) _ _
     (λ v o.
-      inl
-      (h .0, h .1,
-        o
-        ∙ ap₂ rivalLines (c .given .ensures)
-        (front (c .args .puzzle .now) (c .args .clues) _ (c .find .last .strip) (c .count .result - 0) e h)))
+    inl (
+      h .0,
+      h .1,
+      o
+          ∙ ap₂ rivalLines (c .given .ensures)
+          (front (c .args .puzzle .now) (c .args .clues) _ (c .find .last .strip) (c .count .result - 0) e h),
+    ))
     (c .rival-lines .ensures)
 
 pub returns-in-NoRival : need.returns-in-NoRival

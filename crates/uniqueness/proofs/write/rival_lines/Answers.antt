@@ -21,8 +21,8 @@ pub returns : need.returns
 returns c =
     let digits = c .deref .ensures .value ∙ c .in-Continue-digits .ensures tt in
     let marks =
-          c .deref-2 .ensures .value ∙ c .in-Continue-marks .ensures tt
-          ∙ ap (λ s. marksOf s (length (c .args .rival .now))) (c .difference .ensures) in
+    c .deref-2 .ensures .value ∙ c .in-Continue-marks .ensures tt
+    ∙ ap (λ s. marksOf s (length (c .args .rival .now))) (c .difference .ensures) in
     added (digitsOf (c .args .rival .now)) (codes "\ndiffers=") (marksOf (differ (c .args .given .now) (c .args .rival .now)) (length (c .args .rival .now))) (codes "\n")
     (c .in-Continue-out .ensures tt .made .0)
     (c .in-Continue-extend-from-slice .ensures tt .items ∙ ap (λ l. vec-items (c .in-Continue-out .out) ++ l) digits)

@@ -1,13 +1,13 @@
 use mathlib.Core.Path.{_≡_, sym, ap, _∙_}
 use mathlib.Core.Bool.{Bool, not}
-use Prim.Native.Nat.{ℕ, min}
+use Prim.Native.Nat.{ℕ}
 use native.Mathlib.Omega.{arith}
 use Rattle.std.proofs.shelf.Tests.{eq-eqb, ne-eqb}
-use Rattle.cells.specs.Sets.{setOf, with}
-use Rattle.cells.specs.Grids.{alike, common}
+use Rattle.cells.specs.Sets.{with}
+use Rattle.cells.specs.Grids.{alike, differBelow}
 use Rattle.cells.proofs.SetLaws.{setOf-none, setOf-miss, setOf-hit}
-use Rattle.cells.proofs.grids.difference.Needs as need
-use Rattle.cells.proofs.grids.difference.Needs.{then-one-cell, else-one-cell}
+use Rattle.cells.proofs.grids.difference_below.Needs as need
+use Rattle.cells.proofs.grids.difference_below.Needs.{then-one-cell, else-one-cell}
 
 pub loop-cell-holds : need.loop-cell-holds
 loop-cell-holds c = setOf-none (λ k. not (alike (c .args .one .now) (c .args .other .now) k))
@@ -25,5 +25,5 @@ loop-cell-again c =
 
 pub returns : need.returns
 returns c =
-    let end : c .loop-cell .cell ≡ min 64 (common (c .args .one .now) (c .args .other .now)) = omega arith in
-    c .loop-cell .inv ∙ ap (setOf (λ k. not (alike (c .args .one .now) (c .args .other .now) k))) end
+    let end : c .loop-cell .cell ≡ c .args .count = omega arith in
+    c .loop-cell .inv ∙ ap (λ k. differBelow k (c .args .one .now) (c .args .other .now)) end
