@@ -37,17 +37,21 @@ after [] line = Some line
 after (k ∷ ks) [] = None
 after (k ∷ ks) (b ∷ line) = cond (eqb b k) (after ks line) None
 
--- A line by its key, with its value.
-pub data Told : Type 0 where
-  kind : List ℕ → Told
-  size : List ℕ → Told
-  grid : List ℕ → Told
-  map : List ℕ → Told
-  clues : List ℕ → Told
+-- The keys that a line can have.
+pub data Key : Type 0 where
+  kind : Key
+  size : Key
+  grid : Key
+  map : Key
+  clues : Key
 
-abbrev pub under : (List ℕ → Told) → Option (List ℕ) → Option Told → Option Told
+-- A line by its key, with its value.
+abbrev pub Told : Type 0
+Told = Key × List ℕ
+
+abbrev pub under : Key → Option (List ℕ) → Option Told → Option Told
 under key None other = other
-under key (Some value) other = Some (key value)
+under key (Some value) other = Some (key, value)
 
 abbrev pub tell : List ℕ → Option Told
 tell line =
@@ -56,11 +60,11 @@ tell line =
     (under grid (after (codes "grid=") line) (under map (after (codes "map=") line) (under clues (after (codes "clues=") line) None))))
 
 abbrev pub tokenShown : Token → Told
-tokenShown (Kind v) = kind (v .now)
-tokenShown (Size v) = size (v .now)
-tokenShown (Grid v) = grid (v .now)
-tokenShown (Map v) = map (v .now)
-tokenShown (Clues v) = clues (v .now)
+tokenShown (Kind v) = (kind, v .now)
+tokenShown (Size v) = (size, v .now)
+tokenShown (Grid v) = (grid, v .now)
+tokenShown (Map v) = (map, v .now)
+tokenShown (Clues v) = (clues, v .now)
 
 abbrev pub pairShown : RefT (List ℕ) × RefT (List ℕ) → List ℕ × List ℕ
 pairShown p = (p .0 .now, p .1 .now)

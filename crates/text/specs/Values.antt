@@ -30,6 +30,10 @@ abbrev pub allMarks : List ℕ → Bool
 allMarks [] = true
 allMarks (b ∷ bs) = isMark b && allMarks bs
 
+-- Cell c has the mark '#'.
+abbrev pub marked : List ℕ → ℕ → Bool
+marked ms c = eqb (getD ms c 0) 35
+
 -- The set that at most 64 marks give.
 abbrev pub readMarks : List ℕ → Option ℕ
-readMarks ms = cond (leb (length ms) 64 && allMarks ms) (Some (setOf (λ c. eqb (getD ms c 0) 35) (length ms))) None
+readMarks ms = cond (leb (length ms) 64 && allMarks ms) (Some (setOf (marked ms) (length ms))) None

@@ -2,7 +2,6 @@ ghost use mathlib.Core.Path.{_≡_};
 ghost use Rattle.std.specs.Options.{mapped};
 ghost use Rattle.text.specs.Lines.{splitLine, tell, nextLine, pairShown, tokenShown, lineShown};
 use crate::refused::Refused;
-use cells::Refusal;
 
 /// A line by its key, with the value that stands after it: a part of the text itself.
 #[derive(Clone, Copy)]
@@ -52,15 +51,11 @@ fn tell(line: &[u8]) -> Option<Token<'_>>
 pub fn next_line(text: &[u8], number: usize) -> Result<(Line<'_>, &[u8]), Refused>
     ensures { λ r. ⌜ lineShown r ≡ nextLine number (now (text .entry)) ⌝ }
 {
-    let refused = Refused {
-        refusal: Refusal::Form,
-        line: number,
-    };
     let Some((line, rest)) = split_line(text) else {
-        return Err(refused);
+        return Err(Refused::form(number));
     };
     match tell(line) {
         Some(token) => Ok((Line { number, token }, rest)),
-        None => Err(refused),
+        None => Err(Refused::form(number)),
     }
 }

@@ -1,7 +1,6 @@
 ghost use mathlib.Core.Path.{_≡_};
-ghost use Prim.Native.Nat.{_≤_};
-ghost use Rattle.text.specs.Question.{kindLine, sizeLine, gridLine, mapLine, cluesLine, textEnd, readQuestion, kindShown, sizeShown, gridShown, mapShown, cluesShown, endShown, questionShown};
-use crate::lines::Line;
+ghost use lib.Chars.{codes};
+ghost use Rattle.text.specs.Question.{kindLine, sizeLine, gridLine, mapLine, cluesLine, textEnd, readQuestion, kindName, valueShown, restShown, endShown, questionShown};
 use crate::lines::Token;
 use crate::lines::next_line;
 use crate::refused::Refused;
@@ -28,33 +27,25 @@ pub struct Question<'a> {
 
 /// Line 1, `kind=`: the puzzle's name.
 fn read_kind(text: &[u8]) -> Result<(Kind, &[u8]), Refused>
-    ensures { λ r. ⌜ kindShown r ≡ kindLine (now (text .entry)) ⌝ }
+    ensures { λ r. ⌜ valueShown kindName r ≡ kindLine (now (text .entry)) ⌝ }
 {
-    match next_line(text, 1)? {
-        (
-            Line {
-                token: Token::Kind(b"latin"),
-                ..
-            },
-            rest,
-        ) => Ok((Kind::Latin, rest)),
-        (Line { number, .. }, _) => Err(Refused {
-            refusal: Refusal::Form,
-            line: number,
-        }),
+    let (line, rest) = next_line(text, 1)?;
+    let Token::Kind(value) = line.token else {
+        return Err(Refused::form(line.number));
+    };
+    match value {
+        b"latin" => Ok((Kind::Latin, rest)),
+        _ => Err(Refused::form(line.number)),
     }
 }
 
 /// Line 2, `size=`: one digit, which is one of the puzzle's sizes.
 fn read_size(text: &[u8]) -> Result<(usize, &[u8]), Refused>
-    ensures { λ r. ⌜ sizeShown r ≡ sizeLine (now (text .entry)) ⌝ }
+    ensures { λ r. ⌜ valueShown (λ n. n) r ≡ sizeLine (now (text .entry)) ⌝ }
 {
     let (line, rest) = next_line(text, 2)?;
     let Token::Size(value) = line.token else {
-        return Err(Refused {
-            refusal: Refusal::Form,
-            line: line.number,
-        });
+        return Err(Refused::form(line.number));
     };
     match read_digit(value) {
         Some(size) if latin::is_size(size) => Ok((size, rest)),
@@ -62,69 +53,53 @@ fn read_size(text: &[u8]) -> Result<(usize, &[u8]), Refused>
             refusal: Refusal::Size,
             line: line.number,
         }),
-        None => Err(Refused {
-            refusal: Refusal::Form,
-            line: line.number,
-        }),
+        None => Err(Refused::form(line.number)),
     }
 }
 
 /// Line 3, `grid=`: a digit for each cell.
 fn read_grid(text: &[u8], cells: usize) -> Result<(&[u8], &[u8]), Refused>
-    ensures { λ r. ⌜ gridShown r ≡ gridLine cells (now (text .entry)) ⌝ }
+    ensures { λ r. ⌜ valueShown now r ≡ gridLine cells (now (text .entry)) ⌝ }
 {
-    match next_line(text, 3)? {
-        (
-            Line {
-                token: Token::Grid(value),
-                ..
-            },
-            rest,
-        ) if value.len() == cells && all_digits(value) => Ok((value, rest)),
-        (Line { number, .. }, _) => Err(Refused {
-            refusal: Refusal::Form,
-            line: number,
-        }),
+    let (line, rest) = next_line(text, 3)?;
+    let Token::Grid(value) = line.token else {
+        return Err(Refused::form(line.number));
+    };
+    if value.len() == cells && all_digits(value) {
+        Ok((value, rest))
+    } else {
+        Err(Refused::form(line.number))
     }
 }
 
 /// Line 4, `map=`: a Latin grid has none.
 fn read_map(text: &[u8]) -> Result<&[u8], Refused>
-    ensures { λ r. ⌜ mapShown r ≡ mapLine (now (text .entry)) ⌝ }
+    ensures { λ r. ⌜ restShown (codes "-") r ≡ mapLine (now (text .entry)) ⌝ }
 {
-    match next_line(text, 4)? {
-        (
-            Line {
-                token: Token::Map(b"-"),
-                ..
-            },
-            rest,
-        ) => Ok(rest),
-        (Line { number, .. }, _) => Err(Refused {
-            refusal: Refusal::Form,
-            line: number,
-        }),
+    let (line, rest) = next_line(text, 4)?;
+    let Token::Map(value) = line.token else {
+        return Err(Refused::form(line.number));
+    };
+    match value {
+        b"-" => Ok(rest),
+        _ => Err(Refused::form(line.number)),
     }
 }
 
 /// Line 5, `clues=`: a mark for each cell.
 fn read_clues(text: &[u8], cells: usize) -> Result<(CellSet, &[u8]), Refused>
-    ensures { λ r. ⌜ cluesShown r ≡ cluesLine cells (now (text .entry)) ⌝ }
+    ensures { λ r. ⌜ valueShown (λ s. s) r ≡ cluesLine cells (now (text .entry)) ⌝ }
 {
     let (line, rest) = next_line(text, 5)?;
-    let refused = Refused {
-        refusal: Refusal::Form,
-        line: line.number,
-    };
     let Token::Clues(value) = line.token else {
-        return Err(refused);
+        return Err(Refused::form(line.number));
     };
     if value.len() != cells {
-        return Err(refused);
+        return Err(Refused::form(line.number));
     }
     match read_marks(value) {
         Some(clues) => Ok((clues, rest)),
-        None => Err(refused),
+        None => Err(Refused::form(line.number)),
     }
 }
 
@@ -135,10 +110,7 @@ fn read_end(text: &[u8]) -> Result<(), Refused>
     if text.is_empty() {
         Ok(())
     } else {
-        Err(Refused {
-            refusal: Refusal::Form,
-            line: 6,
-        })
+        Err(Refused::form(6))
     }
 }
 
