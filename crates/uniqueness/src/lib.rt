@@ -2,4 +2,4 @@
 mod replies;
 mod write;
 
-pub use replies::answer;
+pub use replies::reply;
