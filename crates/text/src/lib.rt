@@ -1,9 +1,11 @@
-//! The text of a question: its lines, read in order, and what each must hold.
+//! The text of a question: how it is read from standard input, its lines in order, and what each must hold.
+mod input;
 mod lines;
 mod question;
 mod refused;
 mod values;
 
+pub use input::read_front;
 pub use lines::Line;
 pub use lines::Token;
 pub use lines::next_line;

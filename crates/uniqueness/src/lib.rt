@@ -3,3 +3,6 @@ mod replies;
 mod write;
 
 pub use replies::reply;
+
+#[cfg(test)]
+mod tests;

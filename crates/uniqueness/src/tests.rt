@@ -1,0 +1,30 @@
+use crate::reply;
+use std::test::*;
+
+/// Whether the reply to the text is as expected.
+fn says(rt: &LibcRuntime, text: &[u8], expected: &[u8]) -> Result<(), Fail> {
+    let out = reply(rt.alloc(), text)?;
+    check(out.as_slice() == expected)
+}
+
+#[test]
+fn answers(rt: LibcRuntime) -> Result<(), Fail> {
+    let text = b"kind=latin\nsize=2\ngrid=1221\nmap=-\nclues=....\n";
+    says(&rt, text, b"rival=2112\ndiffers=####\n")?;
+    let text = b"kind=latin\nsize=2\ngrid=1221\nmap=-\nclues=..#.\n";
+    says(&rt, text, b"rival=none\n")
+}
+
+#[test]
+fn refusals(rt: LibcRuntime) -> Result<(), Fail> {
+    says(&rt, b"", b"refused=11\nline=1\n")?;
+    says(&rt, b"kind=latin\nsize=2\ngrid=1221\n", b"refused=11\nline=4\n")?;
+    says(&rt, b"kind=latin\nsize=7\n", b"refused=12\nline=2\n")?;
+    says(&rt, b"kind=latin\nsize=7", b"refused=11\nline=2\n")?;
+    let text = b"kind=latin\nsize=2\ngrid=1212\nmap=-\nclues=....\n";
+    says(&rt, text, b"refused=15\nline=3\n")?;
+    let text = b"kind=latin\nsize=2\ngrid=1212\nmap=-\nclues=...-\n";
+    says(&rt, text, b"refused=11\nline=5\n")?;
+    let text = b"kind=latin\nsize=2\ngrid=1221\nmap=-\nclues=....\n\n";
+    says(&rt, text, b"refused=11\nline=6\n")
+}
