@@ -10,9 +10,9 @@ abbrev pub Rival : (List ℕ → Bool) → List ℕ → List ℕ → Type 0
 Rival solves given g = (solves g ≡ true) × (g ≡ given → ⊥)
 
 -- A rival that agrees with the given grid on the clues, so that the clues do not tell the two apart.
-abbrev pub Undetected : (List ℕ → Bool) → List ℕ → ℕ → List ℕ → Type 0
-Undetected solves given clues g = Rival solves given g × (agree clues given g ≡ true)
+abbrev pub AgreeingRival : (List ℕ → Bool) → List ℕ → ℕ → List ℕ → Type 0
+AgreeingRival solves given clues g = Rival solves given g × (agree clues given g ≡ true)
 
 -- The clues admit only the given grid: no rival agrees with it on them.
 abbrev pub AdmitsOnly : (List ℕ → Bool) → List ℕ → ℕ → Type 0
-AdmitsOnly solves given clues = (g : List ℕ) → Undetected solves given clues g → ⊥
+AdmitsOnly solves given clues = (g : List ℕ) → AgreeingRival solves given clues g → ⊥

@@ -1,2 +1,2 @@
-pub mod Judging
-pub mod Finding
+pub mod RuleLaws
+pub mod SearchLaws

@@ -1,3 +1,3 @@
-pub mod Latin
+pub mod Rules
 pub mod Puzzle
 pub mod Search

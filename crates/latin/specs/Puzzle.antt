@@ -9,7 +9,7 @@ use Rattle.std.specs.declared.result.Result.the-variants.{Ok, Err}
 use Rattle.cells.specs.Refusals.{numberOf}
 use Rattle.cells.specs.declared.refusal.Refusal.{Refusal}
 use Rattle.latin.specs.declared.puzzle.Latin.{Latin}
-use Rattle.latin.specs.Latin.{isSize, finished}
+use Rattle.latin.specs.Rules.{isSize, finished}
 
 -- How many cells the puzzle's grids have, its given grid, and the test of its solutions.
 abbrev pub cellCount : Latin → ℕ

@@ -6,20 +6,20 @@ use Prim.Native.Nat.{ℕ, _+_, _/_, _%_, _<_}
 use lib.ListN.{getD}
 use Rattle.cells.specs.Sets.{has}
 use Rattle.cells.specs.Grids.{inStrip}
-use Rattle.cells.specs.Rivals.{Undetected, AdmitsOnly}
+use Rattle.cells.specs.Rivals.{AgreeingRival, AdmitsOnly}
 use Rattle.latin.specs.declared.puzzle.Latin.{Latin}
 use Rattle.latin.specs.declared.search.Found.{Found}
 use Rattle.latin.specs.declared.search.Found.the-variants.{Rival, NoRival}
-use Rattle.latin.specs.Latin.{lineOf}
+use Rattle.latin.specs.Rules.{lineOf}
 use Rattle.latin.specs.Puzzle.{given, solves}
 
 -- The grid is a rival of the puzzle's given grid that agrees with it on the clues.
-abbrev pub Slips : Latin → ℕ → List ℕ → Type 0
-Slips p clues g = Undetected (solves p) (given p) clues g
+abbrev pub IsAgreeingRival : Latin → ℕ → List ℕ → Type 0
+IsAgreeingRival p clues g = AgreeingRival (solves p) (given p) clues g
 
 -- Such a rival was put in the strip.
 abbrev pub Holds : Latin → ℕ → List ℕ → List ℕ → Type 0
-Holds p clues before after = (g : List ℕ) × Slips p clues g × (after ≡ inStrip g before)
+Holds p clues before after = (g : List ℕ) × IsAgreeingRival p clues g × (after ≡ inStrip g before)
 
 -- What `find` answers: a rival, which the strip holds; or none, where the clues admit only the given grid, and the strip is as it was.
 abbrev pub Finds : Latin → ℕ → Found → List ℕ → List ℕ → Type 0
@@ -31,13 +31,13 @@ abbrev pub SameBelow : ℕ → List ℕ → List ℕ → Type 0
 SameBelow k g h = (c : ℕ) → c < k → getD g c 0 ≡ getD h c 0
 
 -- No such rival begins with the pad's first k cells.
-abbrev pub Barren : Latin → ℕ → List ℕ → ℕ → Type 0
-Barren p clues pad k = (g : List ℕ) → Slips p clues g → SameBelow k g pad → ⊥
+abbrev pub DeadEnd : Latin → ℕ → List ℕ → ℕ → Type 0
+DeadEnd p clues pad k = (g : List ℕ) → IsAgreeingRival p clues g → SameBelow k g pad → ⊥
 
 -- What the search answers that goes on from the pad's first k cells.
 abbrev pub FindsFrom : Latin → ℕ → List ℕ → ℕ → Bool → List ℕ → List ℕ → Type 0
 FindsFrom p clues pad k true before after = Holds p clues before after
-FindsFrom p clues pad k false before after = Barren p clues pad k × (after ≡ before)
+FindsFrom p clues pad k false before after = DeadEnd p clues pad k × (after ≡ before)
 
 -- Of the cells before the given one, none that is on the line, of n cells, holds the value.
 abbrev pub Unused : (ℕ → ℕ) → ℕ → List ℕ → ℕ → ℕ → Type 0

@@ -2,11 +2,11 @@ ghost use mathlib.Core.Path.{_≡_};
 ghost use Prim.Native.Nat.{_*_, _<_, _≤_};
 ghost use lib.ListN.{set};
 ghost use Rattle.std.specs.Orderings.{Decides};
-ghost use Rattle.latin.specs.Latin.{lineOf};
+ghost use Rattle.latin.specs.Rules.{lineOf};
 ghost use Rattle.latin.specs.Puzzle.{cellCount};
-ghost use Rattle.latin.specs.Search.{Slips, Finds, FindsFrom, Unused, MayStand};
-use crate::judge::cell_at;
+ghost use Rattle.latin.specs.Search.{IsAgreeingRival, Finds, FindsFrom, Unused, MayStand};
 use crate::puzzle::Latin;
+use crate::rules::cell_at;
 use cells::CellSet;
 
 /// What a search for a rival found.
@@ -60,7 +60,7 @@ impl Latin {
         ensures pad { λ _. ⌜ now (pad .exit) ≡ now (pad .entry) ⌝ }
     {
         if cell == self.count() {
-            return self.settle(clues, strip, pad);
+            return self.accept(clues, strip, pad);
         }
         let most = self.size as u8;
         for value in 1..most + 1 {
@@ -82,12 +82,12 @@ impl Latin {
     }
 
     /// Whether the filled pad holds a rival; it is then copied to the strip.
-    fn settle(&self, clues: CellSet, strip: &mut [u8; 64], pad: &[u8; 64]) -> bool
+    fn accept(&self, clues: CellSet, strip: &mut [u8; 64], pad: &[u8; 64]) -> bool
         ensures { λ r. ⌜ FindsFrom (now (self .entry)) clues (now (pad .entry)) (cellCount (now (self .entry))) r
             (now (strip .entry)) (now (strip .exit)) ⌝ }
     {
         let grid = &pad[0..self.count()];
-        if !self.slips(clues, grid) {
+        if !self.is_agreeing_rival(clues, grid) {
             return false;
         }
         cells::put_in_strip(grid, strip);
@@ -95,8 +95,8 @@ impl Latin {
     }
 
     /// Whether the grid is a rival that agrees with the given grid on the clues.
-    fn slips(&self, clues: CellSet, grid: &[u8]) -> bool
-        ensures { λ r. ⌜ Decides r (Slips (now (self .entry)) clues (now (grid .entry))) ⌝ }
+    fn is_agreeing_rival(&self, clues: CellSet, grid: &[u8]) -> bool
+        ensures { λ r. ⌜ Decides r (IsAgreeingRival (now (self .entry)) clues (now (grid .entry))) ⌝ }
     {
         if !self.judge(grid) {
             return false;

@@ -16,7 +16,7 @@ use Rattle.std.specs.shelf.Text.{sameBytes}
 use Rattle.std.proofs.shelf.Equals.{ReadsAt}
 use Rattle.std.proofs.shelf.Lists.{take-rest}
 use Rattle.std.proofs.shelf.Tests.{cond-true, cond-false, cases-bool, eq-eqb, ne-eqb, eqb-true, and-left, and-right}
-use Rattle.text.specs.Lines.{longer, splitLine, after, Key, Told, under, nextLine}
+use Rattle.text.specs.Lines.{longer, splitLine, after, Key, KeyValue, under, nextLine}
 
 -- No byte 10 stands before place i.
 abbrev pub Inside : List ℕ → ℕ → Type 0
@@ -62,7 +62,7 @@ miss (k ∷ p) (b ∷ s) h =
     (λ f. cond-false _ _ _ f)
     (cases-bool (eqb b k))
 
-pub other : (key : Key) (p s : List ℕ) (t : Option Told) → (length p ≤ length s → ReadsAt s 0 p → ⊥) → under key (after p s) t ≡ t
+pub other : (key : Key) (p s : List ℕ) (t : Option KeyValue) → (length p ≤ length s → ReadsAt s 0 p → ⊥) → under key (after p s) t ≡ t
 other key p s t h = ap (λ o. under key o t) (miss p s h)
 
 -- A value with another length or other bytes than p is not p.
@@ -77,5 +77,5 @@ unlike (k ∷ p) (b ∷ s) h =
     (cases-bool (eqb b k))
 
 -- A line that is read as line n has the number n.
-pub counted : (n : ℕ) (text : List ℕ) {number : ℕ} {t : Told} {rest : List ℕ} → Ok ((number, t), rest) ≡ nextLine n text → number ≡ n
+pub counted : (n : ℕ) (text : List ℕ) {number : ℕ} {t : KeyValue} {rest : List ℕ} → Ok ((number, t), rest) ≡ nextLine n text → number ≡ n
 counted n text e = search needs

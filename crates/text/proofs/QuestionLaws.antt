@@ -11,8 +11,8 @@ use Rattle.std.specs.declared.option.Option.the-variants.{Some, None}
 use Rattle.std.specs.declared.result.Result.{Result}
 use Rattle.std.specs.declared.result.Result.the-variants.{Ok, Err}
 use Rattle.std.proofs.shelf.Tests.{and-parts, eqb-true}
-use Rattle.latin.specs.Latin.{isSize}
-use Rattle.text.specs.Lines.{Fault, Key, grid, size, Told, nextLine}
+use Rattle.latin.specs.Rules.{isSize}
+use Rattle.text.specs.Lines.{Fault, Key, grid, size, KeyValue, nextLine}
 use Rattle.text.specs.Values.{oneDigit, allDigits}
 use Rattle.text.specs.Question.{then, lineOf, orForm, given, keyLine, kindLine, sizeLine, gridLine, mapLine, cluesLine, textEnd, Asked, readQuestion}
 
@@ -36,10 +36,11 @@ key-ok : {A : Type 0} (key : Key) (f : List ℕ → Option A) (text : List ℕ) 
     → (v : List ℕ) × (f v ≡ Some (a .0))
 key-ok key f text a e =
     let w = then-ok (nextLine (lineOf key) text) (λ l. orForm (lineOf key) (l .1) (given key f (l .0 .1))) a (sym e) in
-    let t : Told = w .0 .0 .1 in
-    (t .1,
+    let t : KeyValue = w .0 .0 .1 in (
+      t .1,
       passed (eqb (lineOf (t .0)) (lineOf key)) (f (t .1)) (a .0)
-      (form-ok (lineOf key) (w .0 .1) (given key f t) a (w .2)) .1)
+          (form-ok (lineOf key) (w .0 .1) (given key f t) a (w .2)) .1,
+    )
 
 size-ok : (text : List ℕ) (s : ℕ × List ℕ) → sizeLine text ≡ Ok s → isSize (s .0) ≡ true
 size-ok text s e =
@@ -70,6 +71,7 @@ well-sized text q e =
     let u = then-ok (textEnd (c .0 .1)) _ q (c .2) in
     let same = ok-same q _ (u .2) in
     let side = ap (λ (x : Asked). x .side) same in
-    let digits = ap (λ (x : Asked). x .digits) same in
-    (ap isSize side ∙ size-ok (k .0 .1) (s .0) (s .1),
-      ap length digits ∙ grid-ok (n * n) (s .0 .1) (g .0) (g .1) ∙ ap (λ x. x * x) (sym side))
+    let digits = ap (λ (x : Asked). x .digits) same in (
+      ap isSize side ∙ size-ok (k .0 .1) (s .0) (s .1),
+      ap length digits ∙ grid-ok (n * n) (s .0 .1) (g .0) (g .1) ∙ ap (λ x. x * x) (sym side),
+    )

@@ -46,20 +46,20 @@ pub data Key : Type 0 where
   clues : Key
 
 -- A line by its key, with its value.
-abbrev pub Told : Type 0
-Told = Key × List ℕ
+abbrev pub KeyValue : Type 0
+KeyValue = Key × List ℕ
 
-abbrev pub under : Key → Option (List ℕ) → Option Told → Option Told
+abbrev pub under : Key → Option (List ℕ) → Option KeyValue → Option KeyValue
 under key None other = other
 under key (Some value) other = Some (key, value)
 
-abbrev pub tell : List ℕ → Option Told
-tell line =
+abbrev pub keyValue : List ℕ → Option KeyValue
+keyValue line =
     under kind (after (codes "kind=") line)
     (under size (after (codes "size=") line)
     (under grid (after (codes "grid=") line) (under map (after (codes "map=") line) (under clues (after (codes "clues=") line) None))))
 
-abbrev pub tokenShown : Token → Told
+abbrev pub tokenShown : Token → KeyValue
 tokenShown (Kind v) = (kind, v .now)
 tokenShown (Size v) = (size, v .now)
 tokenShown (Grid v) = (grid, v .now)
@@ -71,19 +71,19 @@ pairShown p = (p .0 .now, p .1 .now)
 
 -- One line read: its number, its key and value, and the text after it.
 abbrev pub OneLine : Type 0
-OneLine = (ℕ × Told) × List ℕ
+OneLine = (ℕ × KeyValue) × List ℕ
 
 abbrev pub lineShown : Result (Line × RefT (List ℕ)) Refused → Result OneLine Fault
 lineShown (Ok p) = Ok ((p .0 .number, tokenShown (p .0 .token)), p .1 .now)
 lineShown (Err e) = Err (refusedShown e)
 
-abbrev pub numbered : ℕ → List ℕ → Option Told → Result OneLine Fault
+abbrev pub numbered : ℕ → List ℕ → Option KeyValue → Result OneLine Fault
 numbered n rest None = Err (11, n)
 numbered n rest (Some t) = Ok ((n, t), rest)
 
 abbrev pub lineFrom : ℕ → Option (List ℕ × List ℕ) → Result OneLine Fault
 lineFrom n None = Err (11, n)
-lineFrom n (Some p) = numbered n (p .1) (tell (p .0))
+lineFrom n (Some p) = numbered n (p .1) (keyValue (p .0))
 
 -- The first line of a text, as line n: refused by 11 if it is missing, is not ended or has no key.
 abbrev pub nextLine : ℕ → List ℕ → Result OneLine Fault

@@ -11,12 +11,12 @@ use Rattle.std.specs.declared.option.Option.the-variants.{Some, None}
 use Rattle.std.specs.declared.result.Result.{Result}
 use Rattle.std.specs.declared.result.Result.the-variants.{Ok, Err}
 use Rattle.std.specs.shelf.Text.{sameBytes}
-use Rattle.latin.specs.Latin.{isSize}
+use Rattle.latin.specs.Rules.{isSize}
 use Rattle.text.specs.declared.refused.Refused.{Refused}
 use Rattle.text.specs.declared.question.Kind.{Kind}
 use Rattle.text.specs.declared.question.Kind.the-variants.{Latin}
 use Rattle.text.specs.declared.question.Question.{Question}
-use Rattle.text.specs.Lines.{Fault, Key, kind, size, grid, map, clues, Told, nextLine, refusedShown}
+use Rattle.text.specs.Lines.{Fault, Key, kind, size, grid, map, clues, KeyValue, nextLine, refusedShown}
 use Rattle.text.specs.Values.{oneDigit, allDigits, readMarks}
 
 -- Go on with what came, unless it is a refusal.
@@ -38,7 +38,7 @@ orForm n rest None = Err (11, n)
 orForm n rest (Some a) = Ok (a, rest)
 
 -- A line with the key gives what f gives of its value; a line with another key gives nothing.
-abbrev pub given : {A : Type 0} → Key → (List ℕ → Option A) → Told → Option A
+abbrev pub given : {A : Type 0} → Key → (List ℕ → Option A) → KeyValue → Option A
 given key f t = cond (eqb (lineOf (t .0)) (lineOf key)) (f (t .1)) None
 
 -- The first line of a text, read as the line of the key.

@@ -1,6 +1,6 @@
 ghost use mathlib.Core.Path.{_≡_};
 ghost use Rattle.std.specs.Options.{mapped};
-ghost use Rattle.text.specs.Lines.{splitLine, tell, nextLine, pairShown, tokenShown, lineShown};
+ghost use Rattle.text.specs.Lines.{splitLine, keyValue, nextLine, pairShown, tokenShown, lineShown};
 use crate::refused::Refused;
 
 /// A line by its key, with the value that stands after it: a part of the text itself.
@@ -33,8 +33,8 @@ fn split_line(text: &[u8]) -> Option<(&[u8], &[u8])>
 }
 
 /// A line taken apart: its key first, the rest as the value.
-fn tell(line: &[u8]) -> Option<Token<'_>>
-    ensures { λ r. ⌜ mapped tokenShown r ≡ tell (now (line .entry)) ⌝ }
+fn split_key(line: &[u8]) -> Option<Token<'_>>
+    ensures { λ r. ⌜ mapped tokenShown r ≡ keyValue (now (line .entry)) ⌝ }
 {
     match line {
         [b'k', b'i', b'n', b'd', b'=', value @ ..] => Some(Token::Kind(value)),
@@ -54,7 +54,7 @@ pub fn next_line(text: &[u8], number: usize) -> Result<(Line<'_>, &[u8]), Refuse
     let Some((line, rest)) = split_line(text) else {
         return Err(Refused::form(number));
     };
-    match tell(line) {
+    match split_key(line) {
         Some(token) => Ok((Line { number, token }, rest)),
         None => Err(Refused::form(number)),
     }

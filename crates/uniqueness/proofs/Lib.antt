@@ -1,1 +1,1 @@
-pub mod Rivals
+pub mod ReplyLaws

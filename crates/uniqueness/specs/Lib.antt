@@ -1,2 +1,2 @@
-pub mod Reply
-pub mod Answer
+pub mod Write
+pub mod Replies

@@ -18,7 +18,11 @@ fn answers(rt: LibcRuntime) -> Result<(), Fail> {
 #[test]
 fn refusals(rt: LibcRuntime) -> Result<(), Fail> {
     says(&rt, b"", b"refused=11\nline=1\n")?;
-    says(&rt, b"kind=latin\nsize=2\ngrid=1221\n", b"refused=11\nline=4\n")?;
+    says(
+        &rt,
+        b"kind=latin\nsize=2\ngrid=1221\n",
+        b"refused=11\nline=4\n",
+    )?;
     says(&rt, b"kind=latin\nsize=7\n", b"refused=12\nline=2\n")?;
     says(&rt, b"kind=latin\nsize=7", b"refused=11\nline=2\n")?;
     let text = b"kind=latin\nsize=2\ngrid=1212\nmap=-\nclues=....\n";

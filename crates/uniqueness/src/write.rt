@@ -6,7 +6,7 @@ ghost use lib.ListN.{length, getD};
 ghost use Rattle.std.specs.Of.Vec.{vec-items};
 ghost use Rattle.std.specs.Results.{isOk};
 ghost use Rattle.std.specs.Vec.{made};
-ghost use Rattle.uniqueness.specs.Reply.{valuesOf, digitsOf, marksOf, rivalLines, refusedLines};
+ghost use Rattle.uniqueness.specs.Write.{valuesOf, digitsOf, marksOf, rivalLines, refusedLines};
 use cells::CellSet;
 use std::alloc::AllocError;
 use std::alloc::Global;

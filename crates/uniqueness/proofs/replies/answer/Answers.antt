@@ -6,8 +6,8 @@ use native.Mathlib.Omega.{arith}
 use lib.ListN.{length, getD}
 use Rattle.std.proofs.shelf.Results.{made-weaker}
 use Rattle.latin.specs.Puzzle.{cellCount}
-use Rattle.uniqueness.specs.Reply.{rivalLines}
-use Rattle.uniqueness.proofs.Rivals.{front, digits}
+use Rattle.uniqueness.specs.Write.{rivalLines}
+use Rattle.uniqueness.proofs.ReplyLaws.{front, digits}
 use Rattle.uniqueness.proofs.replies.answer.Needs as need
 
 pub rival-lines-requires : need.rival-lines-requires

@@ -11,9 +11,9 @@ use Rattle.std.specs.declared.result.Result.the-variants.{Ok, Err}
 use Rattle.std.proofs.shelf.Lists.{length-map}
 use Rattle.std.proofs.shelf.Results.{made-weaker}
 use Rattle.std.proofs.shelf.Tests.{cond-true, eq-eqb}
-use Rattle.latin.specs.Latin.{isSize, finished}
+use Rattle.latin.specs.Rules.{isSize, finished}
 use Rattle.latin.specs.Puzzle.{made}
-use Rattle.uniqueness.specs.Reply.{valuesOf, refusedLines}
+use Rattle.uniqueness.specs.Write.{valuesOf, refusedLines}
 use Rattle.uniqueness.proofs.replies.reply_to.Needs as need
 
 -- A puzzle that is refused at the right size and length is refused since its grid is not finished.
@@ -33,8 +33,8 @@ returns c =
     let digits = c .args .digits .now in
     let values = c .deref .ensures .value ∙ c .in-Continue-values .ensures tt in
     let w =
-          unfinished (c .args .size) (valuesOf digits) _ (c .pre .0) (length-map digits _ ∙ c .pre .1)
-          (c .in-Err .ensures tt ∙ ap (made (c .args .size)) values) in
+    unfinished (c .args .size) (valuesOf digits) _ (c .pre .0) (length-map digits _ ∙ c .pre .1)
+    (c .in-Err .ensures tt ∙ ap (made (c .args .size)) values) in
     made-weaker (c .refused-lines .result) _ _
     (λ v o. otherwise _ _ _ (w .0) (o ∙ ap (λ k. refusedLines k 3) (c .number .ensures ∙ w .1)))
     (c .refused-lines .ensures)

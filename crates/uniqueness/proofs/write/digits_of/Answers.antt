@@ -4,7 +4,7 @@ use Prim.Native.Nat.{_+_}
 use native.Mathlib.Omega.{arith}
 use lib.ListN.{getD}
 use Rattle.std.proofs.shelf.Lists.{map-more, take-all}
-use Rattle.uniqueness.specs.Reply.{digitsOf}
+use Rattle.uniqueness.specs.Write.{digitsOf}
 use Rattle.uniqueness.proofs.write.digits_of.Needs as need
 
 pub loop-value-again : need.loop-value-again

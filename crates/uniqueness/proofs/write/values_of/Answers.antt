@@ -3,7 +3,7 @@ use mathlib.Core.List.{[], _∷_, _++_}
 use Prim.Native.Nat.{_-_}
 use native.Mathlib.Omega.{arith}
 use Rattle.std.proofs.shelf.Lists.{map-more, take-all}
-use Rattle.uniqueness.specs.Reply.{valuesOf}
+use Rattle.uniqueness.specs.Write.{valuesOf}
 use Rattle.uniqueness.proofs.write.values_of.Needs as need
 
 pub loop-digit-again : need.loop-digit-again

@@ -1,7 +1,7 @@
 use mathlib.Core.Path.{_≡_}
 use lib.ListN.{take}
 use Rattle.std.specs.Of.Vec.{vec-items}
-use Rattle.uniqueness.specs.Reply.{valuesOf}
+use Rattle.uniqueness.specs.Write.{valuesOf}
 use Rattle.uniqueness.proofs.write.values_of.Given as given
 
 abbrev pub Inv-loop-digit : given.InvT-loop-digit

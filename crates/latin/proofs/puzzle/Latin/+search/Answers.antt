@@ -4,7 +4,7 @@ use mathlib.Core.Path.{_≡_, refl, _∙_, ap, sym}
 use lib.ListN.{length}
 use Rattle.std.proofs.shelf.Ways.{not-from-decides}
 use Rattle.cells.specs.Grids.{inStrip}
-use Rattle.latin.proofs.Finding.{restored, passed-over, exhausted, barren-at}
+use Rattle.latin.proofs.SearchLaws.{restored, passed-over, exhausted, dead-end-at}
 use Rattle.latin.proofs.puzzle.Latin.+search.Needs as need
 
 pub loop-value-again-then-not-may-stand : need.loop-value-again-then-not-may-stand
@@ -12,7 +12,7 @@ loop-value-again-then-not-may-stand t c = (
   c .loop-value .inv .0,
   c .loop-value .inv .1,
   below-more _ _ (c .loop-value .inv .2)
-      (λ _. barren-at (c .args .self .now) _ _ _ _ _ _ (c .loop-value .inv .0)
+      (λ _. dead-end-at (c .args .self .now) _ _ _ _ _ _ (c .loop-value .inv .0)
       (passed-over (c .args .self .now) _ _ _ _ (omega arith) (omega (arith, ap length (c .loop-value .inv .0)))
       (not-from-decides _ (c .may-stand .ensures) (c .if-not-may-stand .taken)))),
 )
@@ -41,7 +41,7 @@ loop-value-again t c =
           (c .drop-trial-in-loop-value .ensures)
           ∙ c .loop-value .inv .0,
       h .1 ∙ c .loop-value .inv .1,
-      below-more _ _ (c .loop-value .inv .2) (λ _. barren-at (c .args .self .now) _ _ _ _ _ _ (c .loop-value .inv .0) (h .0)),
+      below-more _ _ (c .loop-value .inv .2) (λ _. dead-end-at (c .args .self .now) _ _ _ _ _ _ (c .loop-value .inv .0) (h .0)),
     )
 
 pub returns : need.returns

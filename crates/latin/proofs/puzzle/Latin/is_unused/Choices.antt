@@ -1,4 +1,4 @@
-use Rattle.latin.specs.Latin.{lineOf}
+use Rattle.latin.specs.Rules.{lineOf}
 use Rattle.latin.specs.Search.{Unused}
 use Rattle.latin.proofs.puzzle.Latin.is_unused.Given as given
 

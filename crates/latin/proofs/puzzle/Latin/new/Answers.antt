@@ -10,9 +10,9 @@ use Rattle.std.specs.declared.result.Result.the-variants.{Ok}
 use Rattle.std.proofs.shelf.Tests.{cond-true, eq-eqb}
 use Rattle.cells.specs.Grids.{inStrip}
 use Rattle.cells.proofs.GridLaws.{strip-front}
-use Rattle.latin.specs.Latin.{isSize, finished}
+use Rattle.latin.specs.Rules.{isSize, finished}
 use Rattle.latin.specs.Puzzle.{made}
-use Rattle.latin.proofs.Judging.{size-bounds}
+use Rattle.latin.proofs.RuleLaws.{size-bounds}
 use Rattle.latin.proofs.puzzle.Latin.new.Needs as need
 
 -- A grid of the right length is the front of the strip that it was put in.

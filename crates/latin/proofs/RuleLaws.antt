@@ -11,7 +11,7 @@ use Rattle.std.proofs.shelf.Tests.{and-parts, leb-true, cond-true, cond-false, 
 use Rattle.std.proofs.shelf.Bits.{mul-le, div-add-mod', div-below}
 use Rattle.cells.specs.Lines.{count}
 use Rattle.cells.proofs.LineLaws.{Apart, keeps-from, keeps-length, keeps-value, keeps-once}
-use Rattle.latin.specs.Latin.{isSize, lineOf, finished}
+use Rattle.latin.specs.Rules.{isSize, lineOf, finished}
 
 pub size-pos : (n c : ℕ) → c < n * n → 0 < n
 size-pos zero c l = absurd (not-suc-le-zero l)

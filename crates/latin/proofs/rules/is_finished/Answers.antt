@@ -8,10 +8,10 @@ use Rattle.std.proofs.shelf.Tests.{and-from, le-leb}
 use Rattle.cells.specs.Lines.{isValue}
 use Rattle.cells.proofs.Bounded.{fails}
 use Rattle.cells.proofs.LineLaws.{count-none, marked-more, marked-again, marked-apart}
-use Rattle.latin.specs.Latin.{lineOf, finished}
-use Rattle.latin.proofs.Judging.{finished-from, finished-length, finished-value, finished-once}
-use Rattle.latin.proofs.judge.is_finished.Needs as need
-use Rattle.latin.proofs.judge.is_finished.Needs.{then-value-lt1·by·then-value-lt1, then-value-lt1·by·else-value-lt1·then-value-size, then-value-lt1·by·else-value-lt1·else-value-size·then-seen-value}
+use Rattle.latin.specs.Rules.{lineOf, finished}
+use Rattle.latin.proofs.RuleLaws.{finished-from, finished-length, finished-value, finished-once}
+use Rattle.latin.proofs.rules.is_finished.Needs as need
+use Rattle.latin.proofs.rules.is_finished.Needs.{then-value-lt1·by·then-value-lt1, then-value-lt1·by·else-value-lt1·then-value-size, then-value-lt1·by·else-value-lt1·else-value-size·then-seen-value}
 
 pub returns-then-grid-size : need.returns-then-grid-size
 returns-then-grid-size c =

@@ -7,16 +7,16 @@ use Prim.Native.Nat.{ℕ}
 use Rattle.std.specs.Orderings.{When}
 use Rattle.std.specs.declared.result.Result.{Result}
 use Rattle.std.specs.declared.result.Result.the-variants.{Ok, Err}
-use Rattle.cells.specs.Rivals.{Undetected, AdmitsOnly}
-use Rattle.latin.specs.Latin.{finished}
+use Rattle.cells.specs.Rivals.{AgreeingRival, AdmitsOnly}
+use Rattle.latin.specs.Rules.{finished}
 use Rattle.text.specs.Lines.{Fault}
 use Rattle.text.specs.Question.{Asked}
-use Rattle.uniqueness.specs.Reply.{valuesOf, rivalLines, noRivalLine, refusedLines}
+use Rattle.uniqueness.specs.Write.{valuesOf, rivalLines, noRivalLine, refusedLines}
 
 -- Either a rival that agrees with the given grid on the clues is named, or there is none and the reply says so.
 abbrev pub Answers : (List ℕ → Bool) → List ℕ → ℕ → List ℕ → Type 0
 Answers solves given clues out =
-    ((g : List ℕ) × Undetected solves given clues g × (out ≡ rivalLines given g)) ⊎ (AdmitsOnly solves given clues × (out ≡ noRivalLine))
+    ((g : List ℕ) × AgreeingRival solves given clues g × (out ≡ rivalLines given g)) ⊎ (AdmitsOnly solves given clues × (out ≡ noRivalLine))
 
 -- A finished grid of size n is answered; one that is not finished is refused by 15, at line 3, where it stands.
 abbrev pub RepliesTo : ℕ → List ℕ → ℕ → List ℕ → Type 0

@@ -1,25 +1,25 @@
 use mathlib.Core.Path.{sym, ap, _∙_}
 use borrow.Author.Needs.{needs}
 use lib.Chars.{codes}
-use Rattle.text.specs.Lines.{tell, kind, size, grid, map, clues}
+use Rattle.text.specs.Lines.{keyValue, kind, size, grid, map, clues}
 use Rattle.text.proofs.LineLaws.{known, other}
-use Rattle.text.proofs.lines.tell.Needs as need
+use Rattle.text.proofs.lines.split_key.Needs as need
 
 -- The arms go by the first byte of their key.
 pub returns-in-107 : need.returns-in-107
-returns-in-107 c = sym (ap tell (known (codes "kind=") (c .args .line .now) (search needs) (search needs)))
+returns-in-107 c = sym (ap keyValue (known (codes "kind=") (c .args .line .now) (search needs) (search needs)))
 
 pub returns-in-115 : need.returns-in-115
-returns-in-115 c = sym (ap tell (known (codes "size=") (c .args .line .now) (search needs) (search needs)))
+returns-in-115 c = sym (ap keyValue (known (codes "size=") (c .args .line .now) (search needs) (search needs)))
 
 pub returns-in-103 : need.returns-in-103
-returns-in-103 c = sym (ap tell (known (codes "grid=") (c .args .line .now) (search needs) (search needs)))
+returns-in-103 c = sym (ap keyValue (known (codes "grid=") (c .args .line .now) (search needs) (search needs)))
 
 pub returns-in-109 : need.returns-in-109
-returns-in-109 c = sym (ap tell (known (codes "map=") (c .args .line .now) (search needs) (search needs)))
+returns-in-109 c = sym (ap keyValue (known (codes "map=") (c .args .line .now) (search needs) (search needs)))
 
 pub returns-in-99 : need.returns-in-99
-returns-in-99 c = sym (ap tell (known (codes "clues=") (c .args .line .now) (search needs) (search needs)))
+returns-in-99 c = sym (ap keyValue (known (codes "clues=") (c .args .line .now) (search needs) (search needs)))
 
 pub returns-in-rest : need.returns-in-rest
 returns-in-rest c =

@@ -12,10 +12,10 @@ use Rattle.cells.specs.Sets.{has}
 use Rattle.cells.proofs.LineLaws.{twice}
 use Rattle.cells.proofs.GridLaws.{agree-decides}
 use Rattle.latin.specs.declared.puzzle.Latin.{Latin}
-use Rattle.latin.specs.Latin.{lineOf, finished}
+use Rattle.latin.specs.Rules.{lineOf, finished}
 use Rattle.latin.specs.Puzzle.{cellCount, given}
-use Rattle.latin.specs.Search.{Slips, SameBelow, Barren, Unused, MayStand}
-use Rattle.latin.proofs.Judging.{row-below, column-below, in-row, in-column, finished-length, finished-value, finished-once}
+use Rattle.latin.specs.Search.{IsAgreeingRival, SameBelow, DeadEnd, Unused, MayStand}
+use Rattle.latin.proofs.RuleLaws.{row-below, column-below, in-row, in-column, finished-length, finished-value, finished-once}
 
 -- After a trial the pad is as it was.
 pub restored : (l m p : List ℕ) (i v : ℕ) → m ≡ set l i v → p ≡ set m i (getD l i 0) → p ≡ l
@@ -48,7 +48,7 @@ given-length p = finished-length (p .size) (given p) (p .solved)
 
 -- A rival that goes on from the pad with the value: the value may stand.
 stands : (p : Latin) (clues : ℕ) (pad : List ℕ) (cell value : ℕ) (g : List ℕ) → cell < cellCount p → cell < length pad
-    → Slips p clues g → SameBelow (cell + 1) g (set pad cell value) → MayStand p clues pad cell value
+    → IsAgreeingRival p clues g → SameBelow (cell + 1) g (set pad cell value) → MayStand p clues pad cell value
 stands p clues pad cell value g c m t s =
     let n = p .size in
     let f = t .0 .0 in
@@ -63,7 +63,7 @@ stands p clues pad cell value g c m t s =
     )
 
 pub passed-over : (p : Latin) (clues : ℕ) (pad : List ℕ) (cell value : ℕ) → cell < cellCount p → cell < length pad
-    → (MayStand p clues pad cell value → ⊥) → Barren p clues (set pad cell value) (cell + 1)
+    → (MayStand p clues pad cell value → ⊥) → DeadEnd p clues (set pad cell value) (cell + 1)
 passed-over p clues pad cell value c m no-way g t s = no-way (stands p clues pad cell value g c m t s)
 
 -- A grid that is the pad below a cell is the pad with the grid's own value in the cell, one cell further.
@@ -78,16 +78,16 @@ same-more g pad cell l s i h =
 
 -- If no value in the cell leads to a rival, there is none.
 pub exhausted : (p : Latin) (clues : ℕ) (pad : List ℕ) (cell : ℕ) → cell < cellCount p → cell < length pad
-    → ((v : ℕ) → v < p .size + 1 → 0 < v → Barren p clues (set pad cell v) (cell + 1)) → Barren p clues pad cell
+    → ((v : ℕ) → v < p .size + 1 → 0 < v → DeadEnd p clues (set pad cell v) (cell + 1)) → DeadEnd p clues pad cell
 exhausted p clues pad cell l m none g t s =
     let v = finished-value (p .size) g (t .0 .0) cell l in
     none (getD g cell 0) (omega (arith, v .1)) (omega (arith, v .0)) g t (same-more g pad cell m s)
 
-pub barren-at : (p : Latin) (clues : ℕ) (l m : List ℕ) (i v k : ℕ) → l ≡ m → Barren p clues (set l i v) k → Barren p clues (set m i v) k
-barren-at p clues l m i v k e h = subst (λ (x : List ℕ). Barren p clues (set x i v) k) e h
+pub dead-end-at : (p : Latin) (clues : ℕ) (l m : List ℕ) (i v k : ℕ) → l ≡ m → DeadEnd p clues (set l i v) k → DeadEnd p clues (set m i v) k
+dead-end-at p clues l m i v k e h = subst (λ (x : List ℕ). DeadEnd p clues (set x i v) k) e h
 
 -- A finished grid that is the pad in every cell is the pad's front.
-whole : (p : Latin) (clues : ℕ) (g pad : List ℕ) → Slips p clues g → cellCount p ≤ length pad → SameBelow (cellCount p) g pad
+whole : (p : Latin) (clues : ℕ) (g pad : List ℕ) → IsAgreeingRival p clues g → cellCount p ≤ length pad → SameBelow (cellCount p) g pad
     → g ≡ take (cellCount p) pad
 whole p clues g pad t l s =
     let e = finished-length (p .size) g (t .0 .0) in
@@ -96,6 +96,6 @@ whole p clues g pad t l s =
     (λ i h. let k : i < cellCount p = omega arith in s i k ∙ sym (getD-take (cellCount p) pad i 0 k))
 
 -- A filled pad whose front is no such rival leads to none.
-pub refused : (p : Latin) (clues : ℕ) (pad : List ℕ) → cellCount p ≤ length pad → (Slips p clues (take (cellCount p) pad) → ⊥)
-    → Barren p clues pad (cellCount p)
-refused p clues pad l no-rival g t s = no-rival (subst (λ (x : List ℕ). Slips p clues x) (whole p clues g pad t l s) t)
+pub refused : (p : Latin) (clues : ℕ) (pad : List ℕ) → cellCount p ≤ length pad → (IsAgreeingRival p clues (take (cellCount p) pad) → ⊥)
+    → DeadEnd p clues pad (cellCount p)
+refused p clues pad l no-rival g t s = no-rival (subst (λ (x : List ℕ). IsAgreeingRival p clues x) (whole p clues g pad t l s) t)

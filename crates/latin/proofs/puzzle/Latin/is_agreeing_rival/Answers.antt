@@ -3,7 +3,7 @@ use mathlib.Core.Bool.{true, false, false≢true}
 use Rattle.std.proofs.shelf.Equals.{matches-decides}
 use Rattle.std.proofs.shelf.Ways.{not-from-decides}
 use Rattle.cells.specs.Grids.{agree}
-use Rattle.latin.proofs.puzzle.Latin.slips.Needs as need
+use Rattle.latin.proofs.puzzle.Latin.is_agreeing_rival.Needs as need
 
 pub returns-then-eq : need.returns-then-eq
 returns-then-eq c = (

@@ -4,8 +4,8 @@ use Prim.Native.Nat.{ℕ, _<_}
 use lib.ListN.{length, getD}
 use Rattle.cells.specs.Lines.{count, isValue}
 use Rattle.cells.proofs.LineLaws.{Apart}
-use Rattle.latin.specs.Latin.{lineOf}
-use Rattle.latin.proofs.judge.is_finished.Given as given
+use Rattle.latin.specs.Rules.{lineOf}
+use Rattle.latin.proofs.rules.is_finished.Given as given
 
 abbrev pub Inv-lines : given.InvT-lines
 Inv-lines l = (l .sound ≡ true) × ((i : ℕ) → i < l .line → Apart (l .size) (lineOf (l .size) i) (l .grid))

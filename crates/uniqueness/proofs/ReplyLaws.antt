@@ -8,7 +8,7 @@ use Rattle.cells.proofs.GridLaws.{strip-front}
 use Rattle.latin.specs.declared.puzzle.Latin.{Latin}
 use Rattle.latin.specs.Puzzle.{cellCount}
 use Rattle.latin.specs.Search.{Holds}
-use Rattle.latin.proofs.Judging.{finished-length, finished-value}
+use Rattle.latin.proofs.RuleLaws.{finished-length, finished-value}
 
 -- It is the front of the strip.
 pub front : (p : Latin) (clues : ℕ) (before after : List ℕ) (n : ℕ) → n ≡ cellCount p → (h : Holds p clues before after) → take n after ≡ h .0
