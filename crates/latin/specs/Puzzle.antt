@@ -23,11 +23,11 @@ solves p = finished (p .size)
 
 -- The size and the given grid of the puzzle that is made of n and g, or the refusal's number:
 -- 12 for a size that Latin grids do not have, else 11 for a wrong number of values, else 15 for a grid that is not finished.
-abbrev pub made : ℕ → List ℕ → Result (ℕ × List ℕ) ℕ
-made n g =
+abbrev pub puzzleOf : ℕ → List ℕ → Result (ℕ × List ℕ) ℕ
+puzzleOf n g =
     cond (isSize n) (cond (eqb (length g) (n * n)) (cond (finished n g) (Ok (n, g)) (Err 15)) (Err 11)) (Err 12)
 
 -- The same of what the code answers.
-abbrev pub shown : Result Latin Refusal → Result (ℕ × List ℕ) ℕ
-shown (Ok p) = Ok (p .size, given p)
-shown (Err e) = Err (numberOf e)
+abbrev pub puzzleShown : Result Latin Refusal → Result (ℕ × List ℕ) ℕ
+puzzleShown (Ok p) = Ok (p .size, given p)
+puzzleShown (Err e) = Err (numberOf e)

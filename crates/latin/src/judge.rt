@@ -1,5 +1,5 @@
 ghost use mathlib.Core.Path.{_≡_};
-ghost use Rattle.latin.specs.Puzzle.{cellCount, given, solves, made, shown};
+ghost use Rattle.latin.specs.Puzzle.{cellCount, given, solves, puzzleOf, puzzleShown};
 use crate::puzzle::Latin;
 use crate::rules::is_finished;
 use crate::rules::is_size;
@@ -8,7 +8,7 @@ use cells::Refusal;
 impl Latin {
     /// The puzzle with the given grid, unless there is no such size, the grid has not one value for each cell, or it is not finished.
     pub fn new(size: usize, grid: &[u8]) -> Result<Latin, Refusal>
-        ensures { λ r. ⌜ shown r ≡ made size (now (grid .entry)) ⌝ }
+        ensures { λ r. ⌜ puzzleShown r ≡ puzzleOf size (now (grid .entry)) ⌝ }
     {
         if !is_size(size) {
             return Err(Refusal::Size);

@@ -14,7 +14,7 @@ use Rattle.std.proofs.shelf.Tests.{and-parts, eqb-true}
 use Rattle.latin.specs.Rules.{isSize}
 use Rattle.text.specs.Lines.{Fault, Key, grid, size, KeyValue, nextLine}
 use Rattle.text.specs.Values.{oneDigit, allDigits}
-use Rattle.text.specs.Question.{then, lineOf, orForm, given, keyLine, kindLine, sizeLine, gridLine, mapLine, cluesLine, textEnd, Asked, readQuestion}
+use Rattle.text.specs.Question.{then, lineNumber, orForm, valueUnder, keyLine, kindLine, sizeLine, gridLine, mapLine, cluesLine, textEnd, Asked, readQuestion}
 
 then-ok : {A B : Type 0} (r : Result A Fault) (f : A → Result B Fault) (b : B) → Ok b ≡ then r f → (a : A) × (r ≡ Ok a) × (Ok b ≡ f a)
 then-ok (Ok a) f b e = (a, refl, e)
@@ -35,11 +35,11 @@ passed false o x e = let z : _≡_ {A = ℕ} 0 1 = cc in absurd (omega arith)
 key-ok : {A : Type 0} (key : Key) (f : List ℕ → Option A) (text : List ℕ) (a : A × List ℕ) → keyLine key f text ≡ Ok a
     → (v : List ℕ) × (f v ≡ Some (a .0))
 key-ok key f text a e =
-    let w = then-ok (nextLine (lineOf key) text) (λ l. orForm (lineOf key) (l .1) (given key f (l .0 .1))) a (sym e) in
+    let w = then-ok (nextLine (lineNumber key) text) (λ l. orForm (lineNumber key) (l .1) (valueUnder key f (l .0 .1))) a (sym e) in
     let t : KeyValue = w .0 .0 .1 in (
       t .1,
-      passed (eqb (lineOf (t .0)) (lineOf key)) (f (t .1)) (a .0)
-          (form-ok (lineOf key) (w .0 .1) (given key f t) a (w .2)) .1,
+      passed (eqb (lineNumber (t .0)) (lineNumber key)) (f (t .1)) (a .0)
+          (form-ok (lineNumber key) (w .0 .1) (valueUnder key f t) a (w .2)) .1,
     )
 
 size-ok : (text : List ℕ) (s : ℕ × List ℕ) → sizeLine text ≡ Ok s → isSize (s .0) ≡ true

@@ -25,12 +25,12 @@ then (Ok a) f = f a
 then (Err e) f = Err e
 
 -- Each key has its line, in this order.
-abbrev pub lineOf : Key → ℕ
-lineOf kind = 1
-lineOf size = 2
-lineOf grid = 3
-lineOf map = 4
-lineOf clues = 5
+abbrev pub lineNumber : Key → ℕ
+lineNumber kind = 1
+lineNumber size = 2
+lineNumber grid = 3
+lineNumber map = 4
+lineNumber clues = 5
 
 -- What line n gives, with the text after it; a line that gives nothing is refused by 11.
 abbrev pub orForm : {A : Type 0} → ℕ → List ℕ → Option A → Result (A × List ℕ) Fault
@@ -38,12 +38,12 @@ orForm n rest None = Err (11, n)
 orForm n rest (Some a) = Ok (a, rest)
 
 -- A line with the key gives what f gives of its value; a line with another key gives nothing.
-abbrev pub given : {A : Type 0} → Key → (List ℕ → Option A) → KeyValue → Option A
-given key f t = cond (eqb (lineOf (t .0)) (lineOf key)) (f (t .1)) None
+abbrev pub valueUnder : {A : Type 0} → Key → (List ℕ → Option A) → KeyValue → Option A
+valueUnder key f t = cond (eqb (lineNumber (t .0)) (lineNumber key)) (f (t .1)) None
 
 -- The first line of a text, read as the line of the key.
 abbrev pub keyLine : {A : Type 0} → Key → (List ℕ → Option A) → List ℕ → Result (A × List ℕ) Fault
-keyLine key f text = then (nextLine (lineOf key) text) (λ l. orForm (lineOf key) (l .1) (given key f (l .0 .1)))
+keyLine key f text = then (nextLine (lineNumber key) text) (λ l. orForm (lineNumber key) (l .1) (valueUnder key f (l .0 .1)))
 
 -- Line 1 names the puzzle.
 abbrev pub kindLine : List ℕ → Result (List ℕ × List ℕ) Fault

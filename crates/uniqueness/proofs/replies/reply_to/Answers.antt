@@ -12,12 +12,12 @@ use Rattle.std.proofs.shelf.Lists.{length-map}
 use Rattle.std.proofs.shelf.Results.{made-weaker}
 use Rattle.std.proofs.shelf.Tests.{cond-true, eq-eqb}
 use Rattle.latin.specs.Rules.{isSize, finished}
-use Rattle.latin.specs.Puzzle.{made}
+use Rattle.latin.specs.Puzzle.{puzzleOf}
 use Rattle.uniqueness.specs.Write.{valuesOf, refusedLines}
 use Rattle.uniqueness.proofs.replies.reply_to.Needs as need
 
 -- A puzzle that is refused at the right size and length is refused since its grid is not finished.
-unfinished : (n : ℕ) (g : List ℕ) (k : ℕ) → isSize n ≡ true → length g ≡ n * n → Err k ≡ made n g → (finished n g ≡ false) × (k ≡ 15)
+unfinished : (n : ℕ) (g : List ℕ) (k : ℕ) → isSize n ≡ true → length g ≡ n * n → Err k ≡ puzzleOf n g → (finished n g ≡ false) × (k ≡ 15)
 unfinished n g k s l e =
     told (finished n g) refl (e ∙ cond-true (isSize n) _ _ s ∙ cond-true (eqb (length g) (n * n)) _ _ (eq-eqb (length g) (n * n) l))
   where
@@ -34,7 +34,7 @@ returns c =
     let values = c .deref .ensures .value ∙ c .in-Continue-values .ensures tt in
     let w =
     unfinished (c .args .size) (valuesOf digits) _ (c .pre .0) (length-map digits _ ∙ c .pre .1)
-    (c .in-Err .ensures tt ∙ ap (made (c .args .size)) values) in
+    (c .in-Err .ensures tt ∙ ap (puzzleOf (c .args .size)) values) in
     made-weaker (c .refused-lines .result) _ _
     (λ v o. otherwise _ _ _ (w .0) (o ∙ ap (λ k. refusedLines k 3) (c .number .ensures ∙ w .1)))
     (c .refused-lines .ensures)

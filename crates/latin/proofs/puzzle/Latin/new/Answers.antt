@@ -11,7 +11,7 @@ use Rattle.std.proofs.shelf.Tests.{cond-true, eq-eqb}
 use Rattle.cells.specs.Grids.{inStrip}
 use Rattle.cells.proofs.GridLaws.{strip-front}
 use Rattle.latin.specs.Rules.{isSize, finished}
-use Rattle.latin.specs.Puzzle.{made}
+use Rattle.latin.specs.Puzzle.{puzzleOf}
 use Rattle.latin.proofs.RuleLaws.{size-bounds}
 use Rattle.latin.proofs.puzzle.Latin.new.Needs as need
 
@@ -19,7 +19,7 @@ use Rattle.latin.proofs.puzzle.Latin.new.Needs as need
 front : (n : ℕ) (g strip values : List ℕ) → length g ≡ n * n → n * n ≤ 36 → values ≡ inStrip g strip → take (n * n) values ≡ g
 front n g strip values e l v = ap (λ k. take k values) (sym e) ∙ ap (take (length g)) v ∙ strip-front g strip (omega arith)
 
-made-ok : (n : ℕ) (g : List ℕ) → true ≡ isSize n → length g ≡ n * n → true ≡ finished n g → made n g ≡ Ok (n, g)
+made-ok : (n : ℕ) (g : List ℕ) → true ≡ isSize n → length g ≡ n * n → true ≡ finished n g → puzzleOf n g ≡ Ok (n, g)
 made-ok n g s e f =
     cond-true (isSize n) _ _ (sym s) ∙ cond-true (eqb (length g) (n * n)) _ _ (eq-eqb _ _ e) ∙ cond-true (finished n g) _ _ (sym f)
 
