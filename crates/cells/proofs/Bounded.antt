@@ -1,9 +1,8 @@
 -- Tests at every number below a bound, and at some number below it.
-use mathlib.Core.Path.{_≡_, refl, sym, ap, ap₂, _∙_}
-use mathlib.Core.Bool.{Bool, true, false, not, _&&_, _||_}
-use Prim.Native.Nat.{ℕ, zero, suc, _+_, _<_}
+use mathlib.Core.Path.{_≡_, refl, ap, _∙_}
+use mathlib.Core.Bool.{Bool, true, false}
+use Prim.Native.Nat.{ℕ, _+_, _<_}
 use native.Mathlib.Numerals.{add-one}
-use native.Mathlib.Omega.{arith}
 use Rattle.std.proofs.shelf.Tests.{and-from, both-ways}
 use Rattle.std.proofs.shelf.Ways.{decides-below-and, decides-below-or}
 use Rattle.std.specs.Orderings.{Decides}

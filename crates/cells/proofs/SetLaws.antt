@@ -1,9 +1,9 @@
 -- The laws of sets of cells.
-use mathlib.Core.Path.{_≡_, refl, sym, ap, ap₂, subst, _∙_}
+use mathlib.Core.Path.{_≡_, refl, sym, ap, ap₂, _∙_}
 use mathlib.Core.Bool.{Bool, true, false, not, _&&_, _||_, cond, and-true, and-false, or-false}
 use mathlib.Core.Logic.{_⊎_, ⊎-elim}
 use Prim.Native.Nat.{ℕ, zero, suc, _+_, _-_, _*_, _/_, _%_, _^_, _<_, _≤_, min, max}
-use native.Mathlib.Nat.{add-mul, div-eq-of-lt, pow-suc, two-pow-succ, mod-eq-of-lt}
+use native.Mathlib.Nat.{add-mul, div-eq-of-lt, pow-suc, two-pow-succ}
 use native.Mathlib.Numerals.{one-add, add-one}
 use native.Mathlib.Omega.{arith}
 use lib.Bits.{bitAnd, bitOr, and-step, and-shr, and-le-l, and-block, and-mask, and-zero-r, or-step, or-shr, or-lt, or-disjoint}
@@ -11,10 +11,10 @@ use lib.Count.{ones, ones-step, ones-cat}
 use lib.Dec.{eqb, ltb}
 use Rattle.std.specs.Orderings.{Decides}
 use lib.Pow.{pow-mono}
-use Rattle.std.proofs.shelf.Bits.{pow-pos, pow-add, pow-below, shl-shr, shr-shr, div-add-mod', mod-below, mod-pow-add, one-shl}
-use Rattle.std.proofs.shelf.Tests.{eqb-true, eqb-false, eq-eqb, ne-eqb, lt-ltb, le-ltb, cases-order, cases-lt, cases-bool, cond-true, cond-false, cond-both, false≢true, and-from, and-parts, both-ways}
+use Rattle.std.proofs.shelf.Bits.{pow-pos, pow-below, shr-shr, div-add-mod', mod-below}
+use Rattle.std.proofs.shelf.Tests.{eqb-false, eq-eqb, ne-eqb, lt-ltb, le-ltb, cases-order, cases-lt, cases-bool, false≢true, both-ways}
 use Rattle.std.proofs.shelf.Ways.{tells, same-from-decides, decides-not, decides-eqb}
-use Rattle.cells.specs.Sets.{has, setOf, some, with, without, allBelow, meets}
+use Rattle.cells.specs.Sets.{has, setOf, with, without, allBelow, meets}
 use Rattle.cells.proofs.Bounded.{some-decides}
 
 -- What the code's test of a cell computes.

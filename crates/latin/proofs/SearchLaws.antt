@@ -1,14 +1,13 @@
 -- Why the search finds a rival where there is one.
-use mathlib.Core.Path.{_≡_, refl, sym, ap, _∙_, subst}
-use mathlib.Core.List.{List, _++_}
+use mathlib.Core.Path.{_≡_, sym, ap, _∙_, subst}
+use mathlib.Core.List.{List}
 use mathlib.Core.Logic.{⊎-elim}
-use mathlib.Core.Bool.{Bool, true, false, false≢true}
+use mathlib.Core.Bool.{true}
 use Prim.Native.Nat.{ℕ, _+_, _*_, _/_, _%_, _<_, _≤_}
 use native.Mathlib.Omega.{arith}
 use lib.ListN.{length, getD, set, take}
 use Rattle.std.proofs.shelf.Lists.{set-set, set-getD, getD-set-same, getD-set-other, getD-take, ext-getD, length-take-le}
 use Rattle.std.proofs.shelf.Tests.{cases-eq}
-use Rattle.cells.specs.Sets.{has}
 use Rattle.cells.proofs.LineLaws.{twice}
 use Rattle.cells.proofs.GridLaws.{agree-decides}
 use Rattle.latin.specs.declared.puzzle.Latin.{Latin}

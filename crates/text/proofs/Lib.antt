@@ -1,2 +1,3 @@
 pub mod LineLaws
-pub mod QuestionLaws
+pub mod ValueLaws
+pub mod FormLaws

@@ -1,3 +1,4 @@
 pub mod Lines
 pub mod Values
 pub mod Question
+pub mod Form

@@ -45,19 +45,27 @@ pub data Key : Type 0 where
   map : Key
   clues : Key
 
+abbrev pub keyText : Key → List ℕ
+keyText kind = codes "kind="
+keyText size = codes "size="
+keyText grid = codes "grid="
+keyText map = codes "map="
+keyText clues = codes "clues="
+
 -- A line by its key, with its value.
 abbrev pub KeyValue : Type 0
 KeyValue = Key × List ℕ
 
+-- The line has the key, or else is what is said next.
 abbrev pub under : Key → Option (List ℕ) → Option KeyValue → Option KeyValue
 under key None other = other
 under key (Some value) other = Some (key, value)
 
+abbrev pub asKey : Key → List ℕ → Option KeyValue → Option KeyValue
+asKey key line other = under key (after (keyText key) line) other
+
 abbrev pub keyValue : List ℕ → Option KeyValue
-keyValue line =
-    under kind (after (codes "kind=") line)
-    (under size (after (codes "size=") line)
-    (under grid (after (codes "grid=") line) (under map (after (codes "map=") line) (under clues (after (codes "clues=") line) None))))
+keyValue line = asKey kind line (asKey size line (asKey grid line (asKey map line (asKey clues line None))))
 
 abbrev pub tokenShown : Token → KeyValue
 tokenShown (Kind v) = (kind, v .now)

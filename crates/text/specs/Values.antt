@@ -1,12 +1,13 @@
 -- What the values of the lines must be, and what they mean.
 use mathlib.Core.Bool.{Bool, true, cond, _&&_, _||_}
-use mathlib.Core.List.{List, [], _∷_}
+use mathlib.Core.List.{List, [], _∷_, map}
 use Prim.Native.Nat.{ℕ, _-_}
 use lib.Dec.{eqb, leb}
 use lib.ListN.{length, getD}
 use Rattle.std.specs.declared.option.Option.{Option}
 use Rattle.std.specs.declared.option.Option.the-variants.{Some, None}
-use Rattle.cells.specs.Sets.{setOf}
+use Rattle.std.specs.Iters.{counting}
+use Rattle.cells.specs.Sets.{has, setOf}
 
 -- The bytes 48 to 57 are the decimal digits.
 abbrev pub isDigit : ℕ → Bool
@@ -37,3 +38,7 @@ marked ms c = eqb (getD ms c 0) 35
 -- The set that at most 64 marks give.
 abbrev pub readMarks : List ℕ → Option ℕ
 readMarks ms = cond (leb (length ms) 64 && allMarks ms) (Some (setOf (marked ms) (length ms))) None
+
+-- The marks of the cells below n.
+abbrev pub marksOf : ℕ → ℕ → List ℕ
+marksOf s n = map (λ c. cond (has s c) 35 46) (counting 0 n)

@@ -1,5 +1,6 @@
 ghost use mathlib.Core.Path.{_≡_};
 ghost use lib.Chars.{codes};
+ghost use Rattle.text.specs.Form.{TakesExactly};
 ghost use Rattle.text.specs.Question.{kindLine, sizeLine, gridLine, mapLine, cluesLine, textEnd, readQuestion, kindName, valueShown, restShown, endShown, questionShown};
 use crate::lines::Token;
 use crate::lines::next_line;
@@ -16,13 +17,39 @@ pub enum Kind {
     Latin,
 }
 
-/// A finished grid, as the digits of its line, and the clues to be tried on it.
+/// A grid, as the digits of its line, and the clues to be tried on it.
 #[derive(Clone, Copy)]
 pub struct Question<'a> {
     pub kind: Kind,
     pub size: usize,
     pub grid: &'a [u8],
     pub clues: CellSet,
+}
+
+/// The question that the text asks, or the first line that is not as it must be.
+pub fn read_question(text: &[u8]) -> Result<Question<'_>, Refused>
+    ensures value { λ r. ⌜ questionShown r ≡ readQuestion (now (text .entry)) ⌝ }
+    ensures exactly { λ r. ⌜ TakesExactly (now (text .entry)) (questionShown r) ⌝ }
+{
+    read_lines(text)
+}
+
+/// The five lines in their order, and nothing after them.
+fn read_lines(text: &[u8]) -> Result<Question<'_>, Refused>
+    ensures { λ r. ⌜ questionShown r ≡ readQuestion (now (text .entry)) ⌝ }
+{
+    let (kind, rest) = read_kind(text)?;
+    let (size, rest) = read_size(rest)?;
+    let (grid, rest) = read_grid(rest, size * size)?;
+    let rest = read_map(rest)?;
+    let (clues, rest) = read_clues(rest, size * size)?;
+    read_end(rest)?;
+    Ok(Question {
+        kind,
+        size,
+        grid,
+        clues,
+    })
 }
 
 /// Line 1, `kind=`: the puzzle's name.
@@ -112,22 +139,4 @@ fn read_end(text: &[u8]) -> Result<(), Refused>
     } else {
         Err(Refused::form(6))
     }
-}
-
-/// The question that the text asks, or the first line that is not as it must be.
-pub fn read_question(text: &[u8]) -> Result<Question<'_>, Refused>
-    ensures { λ r. ⌜ questionShown r ≡ readQuestion (now (text .entry)) ⌝ }
-{
-    let (kind, rest) = read_kind(text)?;
-    let (size, rest) = read_size(rest)?;
-    let (grid, rest) = read_grid(rest, size * size)?;
-    let rest = read_map(rest)?;
-    let (clues, rest) = read_clues(rest, size * size)?;
-    read_end(rest)?;
-    Ok(Question {
-        kind,
-        size,
-        grid,
-        clues,
-    })
 }

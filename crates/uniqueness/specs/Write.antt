@@ -1,13 +1,11 @@
 -- The lines of a reply.
-use mathlib.Core.Bool.{cond}
-use mathlib.Core.List.{List, [], _∷_, _++_, map}
+use mathlib.Core.List.{List, _++_, map}
 use Prim.Native.Nat.{ℕ, _+_, _-_}
 use lib.Chars.{codes}
 use lib.ListN.{length}
-use Rattle.std.specs.Iters.{counting}
 use Rattle.std.specs.Written.{decimal}
-use Rattle.cells.specs.Sets.{has}
 use Rattle.cells.specs.Grids.{differ}
+use Rattle.text.specs.Values.{marksOf}
 
 -- The values that decimal digits write, one for each cell, and the digits of values.
 abbrev pub valuesOf : List ℕ → List ℕ
@@ -15,10 +13,6 @@ valuesOf = map (λ d. d - 48)
 
 abbrev pub digitsOf : List ℕ → List ℕ
 digitsOf = map (λ v. v + 48)
-
--- The marks of the cells below n: '#', byte 35, for a cell in the set, and '.', byte 46, for one not in it.
-abbrev pub marksOf : ℕ → ℕ → List ℕ
-marksOf s n = map (λ c. cond (has s c) 35 46) (counting 0 n)
 
 -- The lines that name a rival and mark its difference set; that name none; that refuse a text by a number, at a line.
 abbrev pub rivalLines : List ℕ → List ℕ → List ℕ

@@ -1,12 +1,10 @@
 ghost use mathlib.Core.Path.{_≡_};
-ghost use mathlib.Core.List.{_++_};
-ghost use mathlib.Core.Bool.{cond};
-ghost use Prim.Native.Nat.{ℕ, _+_, _<_, _≤_};
+ghost use Prim.Native.Nat.{ℕ, _+_, _<_};
 ghost use lib.ListN.{length, getD};
 ghost use Rattle.std.specs.Of.Vec.{vec-items};
-ghost use Rattle.std.specs.Results.{isOk};
 ghost use Rattle.std.specs.Vec.{made};
-ghost use Rattle.uniqueness.specs.Write.{valuesOf, digitsOf, marksOf, rivalLines, refusedLines};
+ghost use Rattle.uniqueness.specs.Write.{valuesOf, digitsOf, rivalLines, refusedLines};
+ghost use Rattle.text.specs.Values.{marksOf};
 use cells::CellSet;
 use std::alloc::AllocError;
 use std::alloc::Global;

@@ -1,6 +1,6 @@
 use borrow.Author.Count.{below-more}
 use native.Mathlib.Omega.{arith}
-use mathlib.Core.Path.{_≡_, sym, ap, _∙_, refl}
+use mathlib.Core.Path.{sym, ap, _∙_, refl}
 use mathlib.Core.Bool.{Bool, false, cond}
 use lib.ListN.{getD}
 use Rattle.std.proofs.shelf.Lists.{length-set, getD-replicate}

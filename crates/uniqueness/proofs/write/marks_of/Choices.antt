@@ -1,6 +1,6 @@
 use mathlib.Core.Path.{_≡_}
 use Rattle.std.specs.Of.Vec.{vec-items}
-use Rattle.uniqueness.specs.Write.{marksOf}
+use Rattle.text.specs.Values.{marksOf}
 use Rattle.uniqueness.proofs.write.marks_of.Given as given
 
 abbrev pub Inv-loop-cell : given.InvT-loop-cell

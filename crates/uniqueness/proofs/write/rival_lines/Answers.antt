@@ -5,7 +5,8 @@ use lib.Chars.{codes}
 use lib.ListN.{length}
 use Rattle.std.specs.Of.Vec.{vec-items}
 use Rattle.cells.specs.Grids.{differ}
-use Rattle.uniqueness.specs.Write.{digitsOf, marksOf}
+use Rattle.text.specs.Values.{marksOf}
+use Rattle.uniqueness.specs.Write.{digitsOf}
 use Rattle.uniqueness.proofs.write.rival_lines.Needs as need
 
 -- Four pieces added to a first one, each at the end.

@@ -1,6 +1,6 @@
 use borrow.Author.Count.{below-more}
 use native.Mathlib.Omega.{arith}
-use mathlib.Core.Path.{_≡_, refl, _∙_, ap, sym}
+use mathlib.Core.Path.{_∙_, ap}
 use lib.ListN.{length}
 use Rattle.std.proofs.shelf.Ways.{not-from-decides}
 use Rattle.cells.specs.Grids.{inStrip}

@@ -1,6 +1,5 @@
-use mathlib.Core.Path.{refl}
 use native.Mathlib.Omega.{arith}
-use Rattle.latin.proofs.RuleLaws.{row-below, column-below}
+use Rattle.latin.proofs.RuleLaws.{row-below}
 use Rattle.latin.proofs.puzzle.Latin.may_stand.Needs as need
 
 pub is-unused-requires : need.is-unused-requires
