@@ -72,9 +72,9 @@ agree-unmet s g h l =
         (cases-lt c (min (common g h) 64))
 
 -- The front of a strip that a grid was put in is the grid again.
-pub strip-front : (g strip : List ℕ) → length g ≤ 64 → take (length g) (inStrip g strip) ≡ g
-strip-front g strip h =
-    let n = min (length g) 64 in
-    let e : min (length g) 64 ≡ length g = omega arith in
-    let f = ap (λ k. take k g) e ∙ take-all (length g) g (omega arith) in
-    take-at (take n g) (drop n strip) (length g) (ap length f) ∙ f
+pub strip-front : (g before after : List ℕ) (n : ℕ) → n ≡ length g → length g ≤ 64 → after ≡ inStrip g before → take n after ≡ g
+strip-front g before after n m h e =
+    let k = min (length g) 64 in
+    let same : min (length g) 64 ≡ length g = omega arith in
+    let whole = ap (λ i. take i g) same ∙ take-all (length g) g (omega arith) in
+    ap (take n) e ∙ take-at (take k g) (drop k before) n (ap length whole ∙ sym m) ∙ whole

@@ -2,13 +2,13 @@
 use std::error::AnyError;
 use std::io::Write;
 
-/// As much of the input as is read; no question is longer.
-const LONGEST: usize = 20480;
+/// How much of the input is read. A question has at most 109 bytes, so that what is cut off decides nothing.
+const MOST: usize = 20480;
 
 fn main(rt: LibcRuntime) -> Result<(), AnyError> {
-    let mut buffer = [0; LONGEST];
+    let mut buffer = [0; MOST];
     let length = text::read_front(&mut rt.stdin(), &mut buffer)?;
-    let reply = uniqueness::reply(rt.alloc(), &buffer[0..length])?;
-    rt.stdout().write_all(&reply)?;
+    let reply = uniqueness::reply_to_text(&buffer[0..length]);
+    rt.stdout().write_all(reply.as_bytes())?;
     Ok(())
 }

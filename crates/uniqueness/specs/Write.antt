@@ -2,10 +2,15 @@
 use mathlib.Core.List.{List, _++_, map}
 use Prim.Native.Nat.{ℕ, _+_, _-_}
 use lib.Chars.{codes}
-use lib.ListN.{length}
+use lib.ListN.{length, take}
 use Rattle.std.specs.Written.{decimal}
 use Rattle.cells.specs.Grids.{differ}
 use Rattle.text.specs.Values.{marksOf}
+use Rattle.uniqueness.specs.declared.reply.Reply.{Reply}
+
+-- The bytes of a reply.
+abbrev pub textOf : Reply → List ℕ
+textOf r = take (r .filled) (r .bytes)
 
 -- The values that decimal digits write, one for each cell, and the digits of values.
 abbrev pub valuesOf : List ℕ → List ℕ

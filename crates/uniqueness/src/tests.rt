@@ -1,34 +1,30 @@
-use crate::reply;
+use crate::reply_to_text;
 use std::test::*;
 
 /// Whether the reply to the text is as expected.
-fn says(rt: &LibcRuntime, text: &[u8], expected: &[u8]) -> Result<(), Fail> {
-    let out = reply(rt.alloc(), text)?;
-    check(out.as_slice() == expected)
+fn says(text: &[u8], expected: &[u8]) -> Result<(), Fail> {
+    let reply = reply_to_text(text);
+    check(reply.as_bytes() == expected)
 }
 
 #[test]
-fn answers(rt: LibcRuntime) -> Result<(), Fail> {
+fn answers() -> Result<(), Fail> {
     let text = b"kind=latin\nsize=2\ngrid=1221\nmap=-\nclues=....\n";
-    says(&rt, text, b"rival=2112\ndiffers=####\n")?;
+    says(text, b"rival=2112\ndiffers=####\n")?;
     let text = b"kind=latin\nsize=2\ngrid=1221\nmap=-\nclues=..#.\n";
-    says(&rt, text, b"rival=none\n")
+    says(text, b"rival=none\n")
 }
 
 #[test]
-fn refusals(rt: LibcRuntime) -> Result<(), Fail> {
-    says(&rt, b"", b"refused=11\nline=1\n")?;
-    says(
-        &rt,
-        b"kind=latin\nsize=2\ngrid=1221\n",
-        b"refused=11\nline=4\n",
-    )?;
-    says(&rt, b"kind=latin\nsize=7\n", b"refused=12\nline=2\n")?;
-    says(&rt, b"kind=latin\nsize=7", b"refused=11\nline=2\n")?;
+fn refusals() -> Result<(), Fail> {
+    says(b"", b"refused=11\nline=1\n")?;
+    says(b"kind=latin\nsize=2\ngrid=1221\n", b"refused=11\nline=4\n")?;
+    says(b"kind=latin\nsize=7\n", b"refused=12\nline=2\n")?;
+    says(b"kind=latin\nsize=7", b"refused=11\nline=2\n")?;
     let text = b"kind=latin\nsize=2\ngrid=1212\nmap=-\nclues=....\n";
-    says(&rt, text, b"refused=15\nline=3\n")?;
+    says(text, b"refused=15\nline=3\n")?;
     let text = b"kind=latin\nsize=2\ngrid=1212\nmap=-\nclues=...-\n";
-    says(&rt, text, b"refused=11\nline=5\n")?;
+    says(text, b"refused=11\nline=5\n")?;
     let text = b"kind=latin\nsize=2\ngrid=1221\nmap=-\nclues=....\n\n";
-    says(&rt, text, b"refused=11\nline=6\n")
+    says(text, b"refused=11\nline=6\n")
 }

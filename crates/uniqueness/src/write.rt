@@ -1,68 +1,126 @@
 ghost use mathlib.Core.Path.{_≡_};
-ghost use Prim.Native.Nat.{ℕ, _+_, _<_};
-ghost use lib.ListN.{length, getD};
-ghost use Rattle.std.specs.Of.Vec.{vec-items};
-ghost use Rattle.std.specs.Vec.{made};
-ghost use Rattle.uniqueness.specs.Write.{valuesOf, digitsOf, rivalLines, refusedLines};
+ghost use mathlib.Core.List.{[], _∷_, _++_};
+ghost use Prim.Native.Nat.{ℕ, _+_, _<_, _≤_};
+ghost use lib.ListN.{length, getD, take};
+ghost use Rattle.std.specs.Written.{decimal};
 ghost use Rattle.text.specs.Values.{marksOf};
+ghost use Rattle.uniqueness.specs.Write.{textOf, valuesOf, digitsOf, rivalLines, refusedLines};
+use crate::reply::Reply;
 use cells::CellSet;
-use std::alloc::AllocError;
-use std::alloc::Global;
 
-/// The values that the digits write.
-pub(crate) fn values_of(heap: Global, digits: &[u8]) -> Result<Vec<u8>, AllocError>
-    ensures { λ r. ⌜ made r (λ v. vec-items v ≡ valuesOf (now (digits .entry))) ⌝ }
-{
-    let mut values = Vec::new(heap);
-    for digit in digits {
-        values.push(digit.saturating_sub(b'0'))?;
+impl Reply {
+    /// The text of the reply.
+    pub fn as_bytes(&self) -> &[u8]
+        ensures { λ r. ⌜ now r ≡ textOf (now (self .entry)) ⌝ }
+    {
+        &self.bytes[0..self.filled]
     }
-    Ok(values)
+
+    /// No text yet.
+    pub(crate) fn new() -> Reply
+        ensures text { λ r. ⌜ textOf r ≡ [] ⌝ }
+        ensures filled { λ r. ⌜ r .filled ≡ 0 ⌝ }
+    {
+        Reply {
+            bytes: [0; 88],
+            filled: 0,
+        }
+    }
+
+    /// One byte more.
+    fn push(&mut self, byte: u8)
+        requires { ⌜ now self .filled < 88 ⌝ }
+        ensures text { λ _. ⌜ textOf (now (self .exit)) ≡ textOf (now (self .entry)) ++ (byte ∷ []) ⌝ }
+        ensures filled { λ _. ⌜ now (self .exit) .filled ≡ now (self .entry) .filled + 1 ⌝ }
+    {
+        self.bytes[self.filled] = byte;
+        self.filled += 1;
+    }
+
+    /// A piece of text more.
+    pub(crate) fn push_text(&mut self, piece: &[u8])
+        requires { ⌜ now self .filled + length (now piece) ≤ 88 ⌝ }
+        ensures text { λ _. ⌜ textOf (now (self .exit)) ≡ textOf (now (self .entry)) ++ now (piece .entry) ⌝ }
+        ensures filled { λ _. ⌜ now (self .exit) .filled ≡ now (self .entry) .filled + length (now (piece .entry)) ⌝ }
+    {
+        for byte in piece {
+            self.push(*byte);
+        }
+    }
+
+    /// The digits of the values, each of which is one digit.
+    fn push_digits(&mut self, values: &[u8])
+        requires { ⌜ now self .filled + length (now values) ≤ 88 ⌝ ∗ ⌜ ((k : ℕ) → k < length (now values) → getD (now values) k 0 < 10) ⌝ }
+        ensures text { λ _. ⌜ textOf (now (self .exit)) ≡ textOf (now (self .entry)) ++ digitsOf (now (values .entry)) ⌝ }
+        ensures filled { λ _. ⌜ now (self .exit) .filled ≡ now (self .entry) .filled + length (now (values .entry)) ⌝ }
+    {
+        for value in values {
+            self.push(*value + b'0');
+        }
+    }
+
+    /// The marks of the cells below `count`.
+    fn push_marks(&mut self, set: CellSet, count: usize)
+        requires { ⌜ count ≤ 88 ⌝ ∗ ⌜ now self .filled + count ≤ 88 ⌝ }
+        ensures text { λ _. ⌜ textOf (now (self .exit)) ≡ textOf (now (self .entry)) ++ marksOf set count ⌝ }
+        ensures filled { λ _. ⌜ now (self .exit) .filled ≡ now (self .entry) .filled + count ⌝ }
+    {
+        for cell in 0..count {
+            let mark = if cells::has(set, cell) { b'#' } else { b'.' };
+            self.push(mark);
+        }
+    }
+
+    /// The number in decimal digits, without leading zeros.
+    fn push_number(&mut self, number: usize)
+        requires { ⌜ now self .filled + length (decimal number) ≤ 88 ⌝ }
+        ensures text { λ _. ⌜ textOf (now (self .exit)) ≡ textOf (now (self .entry)) ++ decimal number ⌝ }
+        ensures filled { λ _. ⌜ now (self .exit) .filled ≡ now (self .entry) .filled + length (decimal number) ⌝ }
+    {
+        if number < 10 {
+            self.push(b'0' + number as u8);
+            return;
+        }
+        self.push_number(number / 10);
+        self.push(b'0' + (number % 10) as u8);
+    }
 }
 
-/// The digits of the values, each of which is one digit.
-fn digits_of(heap: Global, values: &[u8]) -> Result<Vec<u8>, AllocError>
-    requires { ⌜ ((k : ℕ) → k < length (now values) → getD (now values) k 0 < 10) ⌝ }
-    ensures { λ r. ⌜ made r (λ v. vec-items v ≡ digitsOf (now (values .entry))) ⌝ }
+/// The values that the digits write, in the first bytes.
+pub(crate) fn values_of(digits: &[u8]) -> [u8; 64]
+    requires { ⌜ length (now digits) ≤ 64 ⌝ }
+    ensures { λ r. ⌜ take (length (now (digits .entry))) r ≡ valuesOf (now (digits .entry)) ⌝ }
 {
-    let mut digits = Vec::new(heap);
-    for value in values {
-        digits.push(*value + b'0')?;
+    let mut values = [0; 64];
+    for cell in 0..digits.len() {
+        values[cell] = digits[cell].saturating_sub(b'0');
     }
-    Ok(digits)
-}
-
-/// The marks of the cells below `count`.
-fn marks_of(heap: Global, set: CellSet, count: usize) -> Result<Vec<u8>, AllocError>
-    ensures { λ r. ⌜ made r (λ v. vec-items v ≡ marksOf set count) ⌝ }
-{
-    let mut marks = Vec::new(heap);
-    for cell in 0..count {
-        let mark = if cells::has(set, cell) { b'#' } else { b'.' };
-        marks.push(mark)?;
-    }
-    Ok(marks)
+    values
 }
 
 /// The lines that name a rival and mark the cells where it differs from the given grid.
-pub(crate) fn rival_lines(heap: Global, given: &[u8], rival: &[u8]) -> Result<Vec<u8>, AllocError>
-    requires { ⌜ ((k : ℕ) → k < length (now rival) → getD (now rival) k 0 < 10) ⌝ }
-    ensures { λ r. ⌜ made r (λ v. vec-items v ≡ rivalLines (now (given .entry)) (now (rival .entry))) ⌝ }
+pub(crate) fn rival_lines(given: &[u8], rival: &[u8]) -> Reply
+    requires { ⌜ length (now rival) ≤ 36 ⌝ ∗ ⌜ ((k : ℕ) → k < length (now rival) → getD (now rival) k 0 < 10) ⌝ }
+    ensures { λ r. ⌜ textOf r ≡ rivalLines (now (given .entry)) (now (rival .entry)) ⌝ }
 {
-    let digits = digits_of(heap, rival)?;
-    let marks = marks_of(heap, cells::difference(given, rival), rival.len())?;
-    let mut out = Vec::from_slice(heap, b"rival=")?;
-    out.extend_from_slice(&digits)?;
-    out.extend_from_slice(b"\ndiffers=")?;
-    out.extend_from_slice(&marks)?;
-    out.extend_from_slice(b"\n")?;
-    Ok(out)
+    let mut reply = Reply::new();
+    reply.push_text(b"rival=");
+    reply.push_digits(rival);
+    reply.push_text(b"\ndiffers=");
+    reply.push_marks(cells::difference(given, rival), rival.len());
+    reply.push_text(b"\n");
+    reply
 }
 
 /// The lines that refuse a text.
-pub(crate) fn refused_lines(heap: Global, number: u8, line: usize) -> Result<Vec<u8>, AllocError>
-    ensures { λ r. ⌜ made r (λ v. vec-items v ≡ refusedLines number line) ⌝ }
+pub(crate) fn refused_lines(number: u8, line: usize) -> Reply
+    ensures { λ r. ⌜ textOf r ≡ refusedLines number line ⌝ }
 {
-    let text = format!(heap, "refused={number}\nline={line}\n")?;
-    Ok(text.into_bytes())
+    let mut reply = Reply::new();
+    reply.push_text(b"refused=");
+    reply.push_number(number as usize);
+    reply.push_text(b"\nline=");
+    reply.push_number(line);
+    reply.push_text(b"\n");
+    reply
 }

@@ -14,10 +14,6 @@ use Rattle.latin.specs.Puzzle.{puzzleOf}
 use Rattle.latin.proofs.RuleLaws.{size-bounds}
 use Rattle.latin.proofs.puzzle.Latin.new.Needs as need
 
--- A grid of the right length is the front of the strip that it was put in.
-front : (n : ℕ) (g strip values : List ℕ) → length g ≡ n * n → n * n ≤ 36 → values ≡ inStrip g strip → take (n * n) values ≡ g
-front n g strip values e l v = ap (λ k. take k values) (sym e) ∙ ap (take (length g)) v ∙ strip-front g strip (omega arith)
-
 made-ok : (n : ℕ) (g : List ℕ) → true ≡ isSize n → length g ≡ n * n → true ≡ finished n g → puzzleOf n g ≡ Ok (n, g)
 made-ok n g s e f =
     cond-true (isSize n) _ _ (sym s) ∙ cond-true (eqb (length g) (n * n)) _ _ (eq-eqb _ _ e) ∙ cond-true (finished n g) _ _ (sym f)
@@ -26,13 +22,15 @@ pub ghost-result : need.ghost-result
 ghost-result c =
     let n = c .args .size in
     let b = size-bounds n (c .if-not-is-size .ensures tt) in
-    let g = front n (c .args .grid .now) _ (c .put-in-strip .last .strip) (c .if-grid-size .left) (b .2) (c .put-in-strip .ensures) in
+    let e = c .if-grid-size .left in
+    let g = strip-front (c .args .grid .now) _ (c .put-in-strip .last .strip) (n * n) (sym e) (omega (arith, b .2)) (c .put-in-strip .ensures) in
     (b .0, (b .1, (b .2, (c .put-in-strip .array-long, (ap (finished n) g ∙ sym (c .if-not-is-finished .ensures tt), tt)))))
 
 pub returns : need.returns
 returns c =
     let n = c .args .size in
     let b = size-bounds n (c .if-not-is-size .ensures tt) in
-    let g = front n (c .args .grid .now) _ (c .put-in-strip .last .strip) (c .if-grid-size .left) (b .2) (c .put-in-strip .ensures) in
+    let e = c .if-grid-size .left in
+    let g = strip-front (c .args .grid .now) _ (c .put-in-strip .last .strip) (n * n) (sym e) (omega (arith, b .2)) (c .put-in-strip .ensures) in
     ap (λ (x : List ℕ). Ok (n, x)) g
     ∙ sym (made-ok n (c .args .grid .now) (c .if-not-is-size .ensures tt) (c .if-grid-size .left) (c .if-not-is-finished .ensures tt))
