@@ -30,7 +30,7 @@ agree-decides s g h =
     (λ f c l. kept-decides (has s c) (getD g c 0) (getD h c 0) .1 (f c l))
     (all-decides (λ c. not (has s c) || alike g h c) (common g h))
 
--- A cell is in the difference set if both grids have it and they differ there.
+-- A cell below 64 that both grids have is in the difference set if they differ there.
 pub has-differ : (g h : List ℕ) (c : ℕ) → c < min (common g h) 64 → has (differ g h) c ≡ not (alike g h c)
 has-differ g h c l = has-setOf (λ d. not (alike g h d)) (min (common g h) 64) c l
 

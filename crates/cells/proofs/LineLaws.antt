@@ -171,7 +171,7 @@ full f (suc n) h e v l =
     (λ (d : v ≡ n → ⊥). full f n (λ u k. h u (omega arith)) (omega arith) v (omega arith))
     (cases-eq v n)
 
--- What a judge learns of a line that it has passed: all its places hold values, and no value stands there twice.
+-- What is known of a line that was gone through: all its places hold values, and no value stands there twice.
 abbrev pub Apart : ℕ → (ℕ → ℕ) → List ℕ → Type 0
 Apart n line g = ((j : ℕ) → j < n → isValue n (getD g (line j) 0) ≡ true) × ((v : ℕ) → v < n → count line g (v + 1) n ≤ 1)
 
@@ -180,7 +180,7 @@ apart-holds n line g a =
     all-from (λ v. eqb (count line g (v + 1) n) 1) n
     (λ v l. eq-eqb (count line g (v + 1) n) 1 (full (λ u. count line g (u + 1) n) n (a .1) (counts line g n n (a .0)) v l))
 
--- Marks of a whole line, at a judge's loop end.
+-- The marks of a whole line.
 pub marked-apart : (n : ℕ) (line : ℕ → ℕ) (g : List ℕ) (seen : List Bool) (k m : ℕ) → k ≡ n → n < m
     → ((j : ℕ) → j < k → isValue n (getD g (line j) 0) ≡ true)
     → ((v : ℕ) → v < m → count line g v k ≡ cond (getD seen v false) 1 0) → Apart n line g
@@ -189,7 +189,7 @@ marked-apart n line g seen k m e l r h = (
   (λ v b. let d = ap (count line g (v + 1)) e in omega (arith, d, h (v + 1) (omega arith), at-most (getD seen (v + 1) false))),
 )
 
--- A grid keeps the rules if it has n × n cells, each on some line, and each line is passed.
+-- A grid keeps the rules if it has n × n cells, each on some line, and each line was gone through.
 pub keeps-from : (n lines : ℕ) (line : ℕ → ℕ → ℕ) (g : List ℕ) → length g ≡ n * n
     → ((c : ℕ) → c < n * n → (l : ℕ) × (k : ℕ) × (l < lines) × (k < n) × (line l k ≡ c))
     → ((l : ℕ) → l < lines → Apart n (line l) g) → keeps n lines line g ≡ true

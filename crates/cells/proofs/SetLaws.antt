@@ -12,8 +12,8 @@ use lib.Dec.{eqb, ltb}
 use Rattle.std.specs.Orderings.{Decides}
 use lib.Pow.{pow-mono}
 use Rattle.std.proofs.shelf.Bits.{pow-pos, pow-below, shr-shr, div-add-mod', mod-below}
-use Rattle.std.proofs.shelf.Tests.{eqb-false, eq-eqb, ne-eqb, lt-ltb, le-ltb, cases-order, cases-lt, cases-bool, false≢true, both-ways}
-use Rattle.std.proofs.shelf.Ways.{tells, same-from-decides, decides-not, decides-eqb}
+use Rattle.std.proofs.shelf.Tests.{eqb-false, eq-eqb, ne-eqb, lt-ltb, le-ltb, cases-order, cases-lt}
+use Rattle.std.proofs.shelf.Ways.{tells}
 use Rattle.cells.specs.Sets.{has, setOf, with, without, allBelow, meets}
 use Rattle.cells.proofs.Bounded.{some-decides}
 
@@ -213,26 +213,9 @@ below-past n h =
     is-setOf (2 ^ 64 - 1) (λ d. ltb d n) 64 (omega arith)
     (λ c l. has-ones 64 c ∙ lt-ltb c 64 l ∙ sym (lt-ltb c n (omega arith)))
 
--- Two sets share a cell if their intersection is not empty.
+-- Two sets meet if some cell is in both.
 pub meets-decides : (s t : ℕ) → Decides (meets s t) ((c : ℕ) × (c < 64) × ((has s c && has t c) ≡ true))
 meets-decides s t = some-decides (λ c. has s c && has t c) 64
-
-pub meets-code : (s t : ℕ) → s < 2 ^ 64 → not (eqb (bitAnd s t) 0) ≡ meets s t
-meets-code s t l =
-    same-from-decides (not (eqb (bitAnd s t) 0)) (meets s t) (decides-not (eqb (bitAnd s t) 0) (decides-eqb (bitAnd s t) 0)) (
-      (λ m e.
-          let w = meets-decides s t .0 m in
-          false≢true (sym (has-above 0 0 (w .0) (omega arith) (omega arith)) ∙ ap (λ x. has x (w .0)) (sym e) ∙ has-and s t (w .0) ∙ w .2)),
-      λ ne. ⊎-elim (λ (m : meets s t ≡ true). m) (λ (f : meets s t ≡ false). absurd (ne (empty f))) (cases-bool (meets s t)),
-    )
-  where
-    empty : meets s t ≡ false → bitAnd s t ≡ 0
-    empty f =
-        same-cells 64 (bitAnd s t) 0 (omega (arith, and-le-l s t)) (pow-pos 64)
-        (λ c h. has-and s t c ∙ none c h (cases-bool (has s c && has t c)) ∙ sym (has-above 0 0 c (omega arith) (omega arith)))
-      where
-        none : (c : ℕ) → c < 64 → ((has s c && has t c) ≡ true) ⊎ ((has s c && has t c) ≡ false) → (has s c && has t c) ≡ false
-        none c h = ⊎-elim (λ e. absurd (both-ways (meets s t) f (meets-decides s t .1 (c, h, e)))) (λ e. e)
 
 -- A cell that is added to a set adds one to its number of cells.
 digit : (s c : ℕ) → has s c ≡ false → s / 2 ^ c % 2 ≡ 0

@@ -22,7 +22,7 @@ agree s g h = all (λ c. not (has s c) || alike g h c) (common g h)
 abbrev pub differBelow : ℕ → List ℕ → List ℕ → ℕ
 differBelow k g h = setOf (λ c. not (alike g h c)) k
 
--- The difference set of two grids: the cells where they differ.
+-- The difference set of two grids: the cells, below 64 and in both grids, where they differ.
 abbrev pub differ : List ℕ → List ℕ → ℕ
 differ g h = differBelow (min (common g h) 64) g h
 

@@ -1,6 +1,6 @@
 ghost use Rattle.cells.specs.Laws.{Same-cells, Subset-number, One-more, Agree-unless-met};
 
-/// The laws of sets and grids that the other crates rest on; it computes nothing.
+/// Laws of all sets of cells and all grids, for whoever reasons about them; it computes nothing.
 pub fn cell_laws()
     ensures same { λ _. ⌜ Same-cells ⌝ }
     ensures subset { λ _. ⌜ Subset-number ⌝ }

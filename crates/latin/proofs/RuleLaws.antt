@@ -32,7 +32,7 @@ in-column n c l =
     let e : n + c % n - n ≡ c % n = omega arith in
     cond-false (ltb (n + c % n) n) _ _ (le-ltb (n + c % n) n (omega arith)) ∙ ap (λ x. c / n * n + x) e ∙ div-add-mod' c n
 
--- A grid whose rows and columns are all passed is finished.
+-- A grid whose rows and columns were all gone through is finished.
 pub finished-from : (n : ℕ) (g : List ℕ) → length g ≡ n * n → ((l : ℕ) → l < 2 * n → Apart n (lineOf n l) g) → finished n g ≡ true
 finished-from n g e a =
     keeps-from n (2 * n) (lineOf n) g e

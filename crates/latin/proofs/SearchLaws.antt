@@ -95,6 +95,6 @@ whole p clues g pad t l s =
     (λ i h. let k : i < cellCount p = omega arith in s i k ∙ sym (getD-take (cellCount p) pad i 0 k))
 
 -- A filled pad whose front is no such rival leads to none.
-pub refused : (p : Latin) (clues : ℕ) (pad : List ℕ) → cellCount p ≤ length pad → (IsAgreeingRival p clues (take (cellCount p) pad) → ⊥)
+pub none-filled : (p : Latin) (clues : ℕ) (pad : List ℕ) → cellCount p ≤ length pad → (IsAgreeingRival p clues (take (cellCount p) pad) → ⊥)
     → DeadEnd p clues pad (cellCount p)
-refused p clues pad l no-rival g t s = no-rival (subst (λ (x : List ℕ). IsAgreeingRival p clues x) (whole p clues g pad t l s) t)
+none-filled p clues pad l no-rival g t s = no-rival (subst (λ (x : List ℕ). IsAgreeingRival p clues x) (whole p clues g pad t l s) t)

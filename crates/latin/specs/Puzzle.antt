@@ -22,7 +22,7 @@ abbrev pub solves : Latin → List ℕ → Bool
 solves p = finished (p .size)
 
 -- The size and the given grid of the puzzle that is made of n and g, or the refusal's number:
--- 12 for a size that Latin grids do not have, else 11 for a wrong number of values, else 15 for a grid that is not finished.
+-- 12 for a size that Latin puzzles do not have, else 11 for a wrong number of values, else 15 for a grid that is not finished.
 abbrev pub puzzleOf : ℕ → List ℕ → Result (ℕ × List ℕ) ℕ
 puzzleOf n g =
     cond (isSize n) (cond (eqb (length g) (n * n)) (cond (finished n g) (Ok (n, g)) (Err 15)) (Err 11)) (Err 12)

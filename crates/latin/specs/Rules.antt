@@ -5,7 +5,7 @@ use Prim.Native.Nat.{ℕ, _+_, _-_, _*_}
 use lib.Dec.{leb, ltb}
 use Rattle.cells.specs.Lines.{keeps}
 
--- The sizes of Latin grids: a grid of size n has n rows of n cells, and cell r × n + c stands in row r and column c.
+-- The sizes of Latin puzzles: a grid of size n has n rows of n cells, and cell r × n + c stands in row r and column c.
 abbrev pub isSize : ℕ → Bool
 isSize n = leb 1 n && leb n 6
 

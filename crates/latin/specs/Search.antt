@@ -39,11 +39,11 @@ abbrev pub FindsFrom : Latin → ℕ → List ℕ → ℕ → Bool → List ℕ 
 FindsFrom p clues pad k true before after = Holds p clues before after
 FindsFrom p clues pad k false before after = DeadEnd p clues pad k × (after ≡ before)
 
--- Of the cells before the given one, none that is on the line, of n cells, holds the value.
+-- Of the n cells of the line, none that comes before the cell holds the value in the pad.
 abbrev pub Unused : (ℕ → ℕ) → ℕ → List ℕ → ℕ → ℕ → Type 0
 Unused line n pad cell value = (k : ℕ) → k < n → line k < cell → getD pad (line k) 0 ≡ value → ⊥
 
--- The value may stand in the cell: a clue there is this value, and it is unused in the cell's row and column.
+-- The value may stand in the cell: a clue there is this value, and it is unused in the row and the column before the cell.
 abbrev pub MayStand : Latin → ℕ → List ℕ → ℕ → ℕ → Type 0
 MayStand p clues pad cell value =
     (has clues cell ≡ true → getD (p .values) cell 0 ≡ value)

@@ -2,7 +2,7 @@ ghost use mathlib.Core.Path.{_≡_};
 ghost use Prim.Native.Nat.{_*_, _<_, _≤_};
 ghost use Rattle.latin.specs.Rules.{isSize, lineOf, finished};
 
-/// Whether there are Latin grids of this size.
+/// Whether Latin puzzles come in this size.
 pub fn is_size(size: usize) -> bool
     ensures { λ r. ⌜ r ≡ isSize size ⌝ }
 {

@@ -41,7 +41,8 @@ impl Drop for Trial<'_> {
 
 impl Latin {
     /// Looks for a finished grid other than the given one that agrees with it on the clues. A rival is left in the first bytes of
-    /// the strip, one for each cell; without one the strip is as it was. The pad is filled on trial, and is then as it was.
+    /// the strip, one for each cell; without one the strip is as it was. The pad is filled on trial, and is then as it was. Which of
+    /// several rivals is named is left free.
     pub fn find(&self, clues: CellSet, strip: &mut [u8; 64], pad: &mut [u8; 64]) -> Found
         ensures answer { λ r. ⌜ Finds (now (self .entry)) clues r (now (strip .entry)) (now (strip .exit)) ⌝ }
         ensures pad { λ _. ⌜ now (pad .exit) ≡ now (pad .entry) ⌝ }

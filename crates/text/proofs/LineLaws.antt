@@ -52,7 +52,7 @@ begins (k ∷ p) (b ∷ s) l r = ap (λ x. x ∷ s) (r .0) ∙ ap (λ t. k ∷ t
 pub known : (p s : List ℕ) → length p ≤ length s → ReadsAt s 0 p → s ≡ p ++ take (length s - length p) (drop (length p) s)
 known p s l r = begins p s l r ∙ ap (λ t. p ++ t) (sym (take-rest s (length p)))
 
--- A line that does not have the key is told by the other keys.
+-- A line that does not have the key gives nothing under it, and so is what the other keys say.
 miss : (p s : List ℕ) → (length p ≤ length s → ReadsAt s 0 p → ⊥) → after p s ≡ None
 miss [] s h = absurd (h (omega arith) tt)
 miss (k ∷ p) [] h = refl

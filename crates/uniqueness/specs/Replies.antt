@@ -22,7 +22,7 @@ Answers solves given clues out =
 abbrev pub RepliesTo : ℕ → List ℕ → ℕ → List ℕ → Type 0
 RepliesTo n grid clues out = When (finished n grid) (Answers (finished n) grid clues out) (out ≡ refusedLines 15 3)
 
--- A text that asks no question is refused by its number and line; else its question is replied to.
+-- A text that asks no question is refused, by the refusal's number and its line; else its question is replied to.
 abbrev pub Replies : Result Asked Fault → List ℕ → Type 0
 Replies (Ok q) out = RepliesTo (q .side) (valuesOf (q .digits)) (q .clueSet) out
 Replies (Err f) out = out ≡ refusedLines (f .0) (f .1)

@@ -1,5 +1,7 @@
 use crate::reply_to_text;
+use std::io::Read;
 use std::test::*;
+use text::read_front;
 
 /// Whether the reply to the text is as expected.
 fn says(text: &[u8], expected: &[u8]) -> Result<(), Fail> {
@@ -27,4 +29,16 @@ fn refusals() -> Result<(), Fail> {
     says(text, b"refused=11\nline=5\n")?;
     let text = b"kind=latin\nsize=2\ngrid=1221\nmap=-\nclues=....\n\n";
     says(text, b"refused=11\nline=6\n")
+}
+
+#[test]
+fn input_in_pieces() -> Result<(), Fail> {
+    let mut buffer = [0; 8];
+    let front: &[u8] = b"kin";
+    let rest: &[u8] = b"d=latin";
+    let mut input = front.chain(rest);
+    check_eq(read_front(&mut input, &mut buffer)?, 8)?;
+    check(&buffer == b"kind=lat")?;
+    check_eq(read_front(&mut input, &mut buffer)?, 2)?;
+    check(&buffer == b"innd=lat")
 }

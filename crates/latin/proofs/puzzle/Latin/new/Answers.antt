@@ -1,13 +1,12 @@
 use mathlib.Core.Path.{_≡_, sym, ap, _∙_}
 use mathlib.Core.Bool.{true}
 use mathlib.Core.List.{List}
-use Prim.Native.Nat.{ℕ, _*_, _≤_}
+use Prim.Native.Nat.{ℕ, _*_}
 use native.Mathlib.Omega.{arith}
 use lib.Dec.{eqb}
-use lib.ListN.{length, take}
+use lib.ListN.{length}
 use Rattle.std.specs.declared.result.Result.the-variants.{Ok}
 use Rattle.std.proofs.shelf.Tests.{cond-true, eq-eqb}
-use Rattle.cells.specs.Grids.{inStrip}
 use Rattle.cells.proofs.GridLaws.{strip-front}
 use Rattle.latin.specs.Rules.{isSize, finished}
 use Rattle.latin.specs.Puzzle.{puzzleOf}
