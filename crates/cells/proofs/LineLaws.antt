@@ -19,19 +19,6 @@ pub count-none : (line : ℕ → ℕ) (g : List ℕ) (v : ℕ) → count line g 
 unfolding count
 count-none line g v = refl
 
--- One more place, at cell c, that holds the value, or does not.
-pub count-hit : (line : ℕ → ℕ) (g : List ℕ) (v k c : ℕ) → c ≡ line k → getD g c 0 ≡ v → count line g v (k + 1) ≡ 1 + count line g v k
-unfolding count
-count-hit line g v k c e h =
-    ap (count line g v) (add-one k)
-    ∙ ap (λ (b : Bool). cond b 1 0 + count line g v k) (eq-eqb (getD g (line k) 0) v (ap (λ q. getD g q 0) (sym e) ∙ h))
-
-pub count-miss : (line : ℕ → ℕ) (g : List ℕ) (v k c : ℕ) → c ≡ line k → (getD g c 0 ≡ v → ⊥) → count line g v (k + 1) ≡ 0 + count line g v k
-unfolding count
-count-miss line g v k c e h =
-    ap (count line g v) (add-one k)
-    ∙ ap (λ (b : Bool). cond b 1 0 + count line g v k) (ne-eqb (getD g (line k) 0) v (λ d. h (ap (λ q. getD g q 0) e ∙ d)))
-
 count-step : (line : ℕ → ℕ) (g : List ℕ) (v k : ℕ) → count line g v (suc k) ≡ cond (eqb (getD g (line k) 0) v) 1 0 + count line g v k
 unfolding count
 count-step line g v k = refl
@@ -40,6 +27,16 @@ last : (line : ℕ → ℕ) (g : List ℕ) (v m j : ℕ) → j ≡ m → getD g 
 last line g v m j e h =
     count-step line g v m
     ∙ ap (λ (b : Bool). cond b 1 0 + count line g v m) (eq-eqb (getD g (line m) 0) v (ap (λ q. getD g (line q) 0) (sym e) ∙ h))
+
+-- One more place, at cell c, that holds the value, or does not.
+pub count-hit : (line : ℕ → ℕ) (g : List ℕ) (v k c : ℕ) → c ≡ line k → getD g c 0 ≡ v → count line g v (k + 1) ≡ 1 + count line g v k
+count-hit line g v k c e h = ap (count line g v) (add-one k) ∙ last line g v k k refl (ap (λ q. getD g q 0) (sym e) ∙ h)
+
+pub count-miss : (line : ℕ → ℕ) (g : List ℕ) (v k c : ℕ) → c ≡ line k → (getD g c 0 ≡ v → ⊥) → count line g v (k + 1) ≡ 0 + count line g v k
+unfolding count
+count-miss line g v k c e h =
+    ap (count line g v) (add-one k)
+    ∙ ap (λ (b : Bool). cond b 1 0 + count line g v k) (ne-eqb (getD g (line k) 0) v (λ d. h (ap (λ q. getD g q 0) e ∙ d)))
 
 -- A value that stands in a line is counted, and one that stands there twice is counted twice.
 once : (line : ℕ → ℕ) (g : List ℕ) (v m j : ℕ) → j < m → getD g (line j) 0 ≡ v → 1 ≤ count line g v m
