@@ -1,4 +1,6 @@
 //! What a finder is: one trait for every puzzle, what follows for every finder, and pins over any finder.
+#![tactic(auto)]
+
 mod finder;
 mod found;
 mod pins;

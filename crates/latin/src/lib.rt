@@ -1,4 +1,6 @@
 //! The Latin puzzle: its rules, its judge and its search for a rival.
+#![tactic(auto)]
+
 mod judge;
 mod puzzle;
 mod rules;
