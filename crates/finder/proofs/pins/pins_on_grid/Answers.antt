@@ -9,5 +9,5 @@ returns g c =
     let m = g.F.Finder.meaning c.args.below.now in
     let law = g.met.F.Finder.lawful c.args.below.now in
     let pins : c.intersection.result ≡ pins_of c.args.pins (g.F.Finder.meaning c.args.below.now) =
-    c.intersection.ensures ∙ ap (intersection c.args.pins) (c.all-below.ensures ∙ ap all_below c.count.ensures) in
+    c.intersection.ensures ∙ ap (intersection c.args.pins) (c.all_below.ensures ∙ ap all_below c.count.ensures) in
     record { pins = pins; means = ap (λ p. pinned p m) pins ∙ pinned_inside m c.args.pins (omega arith) law.few }

@@ -10,4 +10,4 @@ returns g c =
     let law = g.met.F.Finder.lawful c.args.finder.now in
     let n : c.count.result - 0 ≡ cell_count (g.F.Finder.meaning c.args.finder.now) = omega arith in
     c.agree.ensures.value
-    ∙ ap (λ x. agree c.args.set x c.args.grid.now) (strip_front v _ c.put-given.new.strip (c.count.result - 0) n law.few c.put-given.ensures)
+    ∙ ap (λ x. agree c.args.set x c.args.grid.now) (strip_front v _ c.put_given.new.strip (c.count.result - 0) n law.few c.put_given.ensures)

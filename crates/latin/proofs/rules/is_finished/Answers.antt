@@ -27,10 +27,10 @@ loop-place-preserved c = (
   c.loop-place.invariant.0,
   length-set c.loop-place.seen _ _ ∙ c.loop-place.invariant.1,
   below_more _ _ c.loop-place.invariant.2
-      (ap (λ p. is_value c.args.size (get_or c.args.grid.now p 0)) (sym c.cell-at.ensures.value)
+      (ap (λ p. is_value c.args.size (get_or c.args.grid.now p 0)) (sym c.cell_at.ensures.value)
       ∙ and_from _ _ (le-leb _ _ c.if-value-lt1.false) (le-leb _ _ c.if-value-size.false)),
-  marked_more (line_of c.args.size c.lines.line) c.args.grid.now c.loop-place.seen c.loop-place.place c.cell-at.result 7
-      c.cell-at.ensures.value (sym c.loop-place.invariant.1) (omega arith) c.if-seen-value.false c.loop-place.invariant.3,
+  marked_more (line_of c.args.size c.lines.line) c.args.grid.now c.loop-place.seen c.loop-place.place c.cell_at.result 7
+      c.cell_at.ensures.value (sym c.loop-place.invariant.1) (omega arith) c.if-seen-value.false c.loop-place.invariant.3,
 )
 
 pub lines-preserved : goal.lines-preserved
@@ -50,12 +50,12 @@ pub returns-then-value-lt1 : goal.returns-then-value-lt1
 returns-then-value-lt1 c =
     fails (finished c.args.size c.args.grid.now)
     (λ f.
-    let r = finished_value c.args.size c.args.grid.now f c.cell-at.result c.cell-at.ensures.within in
+    let r = finished_value c.args.size c.args.grid.now f c.cell_at.result c.cell_at.ensures.within in
     elim c.then-value-lt1.branch [
       | then-value-lt1-via-then-value-lt1 w ↦ omega (arith, r.0, w.if-value-lt1.true)
       | then-value-lt1-via-else-value-lt1+then-value-size w ↦ omega (arith, r.1, w.if-value-size.true)
       | then-value-lt1-via-else-value-lt1+else-value-size+then-seen-value w ↦
           marked_again (line_of c.args.size c.lines.line) c.args.grid.now c.loop-place.seen c.loop-place.place c.args.size
-          c.cell-at.result 7 c.cell-at.ensures.value c.loop-place-test.true (omega (arith, r.1)) w.if-seen-value.true
+          c.cell_at.result 7 c.cell_at.ensures.value c.loop-place-test.true (omega (arith, r.1)) w.if-seen-value.true
           c.loop-place.invariant.3 (finished_once c.args.size c.args.grid.now f c.lines.line c.lines-test.true _ r.0 r.1)
     ])

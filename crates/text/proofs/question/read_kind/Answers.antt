@@ -5,7 +5,7 @@ use Rattle.text.proofs.question.read_kind.Goals as goal
 
 pub returns-in-default : goal.returns-in-default
 returns-in-default c =
-    let number = counted 1 c.args.text.now c.in-ok-line.ensures in
+    let number = counted 1 c.args.text.now c.in_ok-line.ensures in
     search (rules, number)
 
 pub returns-in-108 : goal.returns-in-108
@@ -15,6 +15,6 @@ returns-in-108 c =
 
 pub returns-in-default-value : goal.returns-in-default-value
 returns-in-default-value c =
-    let number = counted 1 c.args.text.now c.in-ok-line.ensures in
+    let number = counted 1 c.args.text.now c.in_ok-line.ensures in
     let other = unlike (codes "latin") c.in-Kind.value.now (λ l r. search rules) in
     search (rules, number)

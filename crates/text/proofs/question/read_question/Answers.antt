@@ -9,6 +9,6 @@ pub returns : goal.returns
 returns c =
     let text = c.args.text.now in
     record {
-      value = c.read-lines.ensures;
-      exactly = subst (λ (r : Result Asked Fault). TakesExactly text r) (sym c.read-lines.ensures) (takes_exactly text);
+      value = c.read_lines.ensures;
+      exactly = subst (λ (r : Result Asked Fault). TakesExactly text r) (sym c.read_lines.ensures) (takes_exactly text);
     }

@@ -4,8 +4,8 @@ use Rattle.uniqueness.specs.Write.{rival_lines}
 use Rattle.uniqueness.proofs.ReplyLaws.{front, digits, few}
 use Rattle.uniqueness.proofs.replies.answer.Goals as goal
 
-pub rival-lines-requires : goal.rival-lines-requires
-rival-lines-requires c =
+pub rival_lines-requires : goal.rival_lines-requires
+rival_lines-requires c =
     let p = c.args.puzzle.now in
     let h = c.in-Rival.ensures.answer in
     let e : c.count.result - 0 ≡ cell_count c.args.puzzle.now = omega arith in
@@ -20,6 +20,6 @@ returns-in-Rival c =
     inl (
       h.0,
       h.1,
-      c.rival-lines.ensures
+      c.rival_lines.ensures
           ∙ ap₂ rival_lines c.given.ensures (front c.args.puzzle.now c.args.clues _ c.find.new.strip (c.count.result - 0) e h),
     )

@@ -9,5 +9,5 @@ pub returns : goal.returns
 returns c =
     let rival = c.args.rival.now in
     five (codes "rival=") (digits_of rival) (codes "\ndiffers=") (marks_of (differ c.args.given.now rival) (length rival)) (codes "\n")
-    c.new-reply.ensures.text c.push-text.ensures.text c.push-digits.ensures.text c.push-text-2.ensures.text
-    (c.push-marks.ensures.text ∙ ap (λ s. text_of c.push-text-2.new.self ++ marks_of s (length rival)) c.difference.ensures) c.push-text-3.ensures.text
+    c.new-reply.ensures.text c.push_text.ensures.text c.push_digits.ensures.text c.push_text-2.ensures.text
+    (c.push_marks.ensures.text ∙ ap (λ s. text_of c.push_text-2.new.self ++ marks_of s (length rival)) c.difference.ensures) c.push_text-3.ensures.text

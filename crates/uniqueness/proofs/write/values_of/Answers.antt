@@ -6,8 +6,8 @@ use Rattle.uniqueness.proofs.write.values_of.Goals as goal
 pub loop-cell-preserved : goal.loop-cell-preserved
 loop-cell-preserved c =
     let cell = c.loop-cell.cell in (
-      take_more_set c.loop-cell.values cell c.saturating-sub.result (omega (arith, c.loop-cell.invariant.1))
-          ∙ ap₂ (λ xs x. xs ++ (x ∷ [])) c.loop-cell.invariant.0 c.saturating-sub.ensures
+      take_more_set c.loop-cell.values cell c.saturating_sub.result (omega (arith, c.loop-cell.invariant.1))
+          ∙ ap₂ (λ xs x. xs ++ (x ∷ [])) c.loop-cell.invariant.0 c.saturating_sub.ensures
           ∙ sym (map_more (λ d. d - 48) c.args.digits.now cell 0 c.loop-cell-test.true),
       length-set c.loop-cell.values cell _ ∙ c.loop-cell.invariant.1,
     )

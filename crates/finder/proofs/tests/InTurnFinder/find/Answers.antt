@@ -42,7 +42,7 @@ returns-then-has c =
 pub returns : goal.returns
 returns c =
     let clues = c.args.clues in
-    let after = c.put-in-strip.new.strip in
+    let after = c.put_in_strip.new.strip in
     let second = c.args.self.now.second in
     let f = sym c.if-has.ensures in
     let value : c.if-self.value ≡ cond c.args.self.now.second 2 1 =
@@ -52,10 +52,10 @@ returns c =
     ] in
     let bounds : (0 < c.if-self.value) × (c.if-self.value < 3) =
     elim c.if-self.branch [ then-self w ↦ (omega (arith, w.value-is), omega (arith, w.value-is)) | else-self w ↦ (omega (arith, w.value-is), omega (arith, w.value-is)) ] in
-    let front : take 1 after ≡ c.if-self.value ∷ [] = ap (take 1) c.put-in-strip.ensures in
+    let front : take 1 after ≡ c.if-self.value ∷ [] = ap (take 1) c.put_in_strip.ensures in
     record {
       answer = subst (λ (g : List ℕ). AgreeingRival toy clues g) (sym front) (rival clues c.if-self.value f bounds.0 bounds.1);
-      strip = c.put-in-strip.ensures ∙ ap (λ g. in_strip g c.args.strip.now) (sym front);
+      strip = c.put_in_strip.ensures ∙ ap (λ g. in_strip g c.args.strip.now) (sym front);
       asked = (
         ap Some (front ∙ ap (λ v. v ∷ []) value) ∙ sym (cond-false (has clues 0) None _ f),
         sym (cond-false (has clues 0) second (not second) f),

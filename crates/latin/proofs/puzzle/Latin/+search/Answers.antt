@@ -4,14 +4,14 @@ use Rattle.cells.specs.Grids.{in_strip}
 use Rattle.latin.proofs.SearchLaws.{restored, passed_over, exhausted, dead_end_at}
 use Rattle.latin.proofs.puzzle.Latin.+search.Goals as goal
 
-pub loop-value-preserved-then-not-may-stand : goal.loop-value-preserved-then-not-may-stand
-loop-value-preserved-then-not-may-stand t c = (
+pub loop-value-preserved-then-not-may_stand : goal.loop-value-preserved-then-not-may_stand
+loop-value-preserved-then-not-may_stand t c = (
   c.loop-value.invariant.0,
   c.loop-value.invariant.1,
   below_more _ _ c.loop-value.invariant.2
       (λ _. dead_end_at c.args.self.now _ _ _ _ _ _ c.loop-value.invariant.0
       (passed_over c.args.self.now _ _ _ _ (omega arith) (omega (arith, ap length c.loop-value.invariant.0))
-      (not_from_Decides _ c.may-stand.ensures c.if-not-may-stand.true))),
+      (not_from_Decides _ c.may_stand.ensures c.if-not-may_stand.true))),
 )
 
 pub drop-trial-requires : goal.drop-trial-requires

@@ -9,16 +9,16 @@ loop-place-preserved c =
     (λ l e.
     elim c.else-there-cell.branch [
       | else-there-cell-via-then-there-cell+else-pad-there w ↦
-          w.if-pad-there.false (ap (λ x. get_or c.args.pad.now x 0) c.cell-at-there.ensures.value ∙ e)
-      | else-there-cell-via-else-there-cell w ↦ omega (arith, l, w.if-there-cell.false, c.cell-at-there.ensures.value)
+          w.if-pad-there.false (ap (λ x. get_or c.args.pad.now x 0) c.cell_at-there.ensures.value ∙ e)
+      | else-there-cell-via-else-there-cell w ↦ omega (arith, l, w.if-there-cell.false, c.cell_at-there.ensures.value)
     ])
 
 pub returns-then-pad-there : goal.returns-then-pad-there
 returns-then-pad-there c = (
   λ e. absurd (false≢true e),
   λ u. absurd
-      (u c.loop-place.place (omega arith) (omega (arith, c.cell-at-there.ensures.value))
-      (ap (λ x. get_or c.args.pad.now x 0) (sym c.cell-at-there.ensures.value) ∙ c.if-pad-there.true)),
+      (u c.loop-place.place (omega arith) (omega (arith, c.cell_at-there.ensures.value))
+      (ap (λ x. get_or c.args.pad.now x 0) (sym c.cell_at-there.ensures.value) ∙ c.if-pad-there.true)),
 )
 
 pub returns : goal.returns

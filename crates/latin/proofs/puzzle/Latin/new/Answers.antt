@@ -10,19 +10,25 @@ made_ok : (n : ℕ) (g : List ℕ) → true ≡ is_size n → length g ≡ n * n
 made_ok n g s e f =
     cond-true (is_size n) _ _ (sym s) ∙ cond-true (eqb (length g) (n * n)) _ _ (eq-eqb _ _ e) ∙ cond-true (finished n g) _ _ (sym f)
 
-pub invariant-of-result : goal.invariant-of-result
-invariant-of-result c =
+pub invariant_of-result : goal.invariant_of-result
+invariant_of-result c =
     let n = c.args.size in
-    let b = size_bounds n c.if-not-is-size.ensures in
+    let b = size_bounds n c.if-not-is_size.ensures in
     let e = c.if-grid-size.false in
-    let g = strip_front c.args.grid.now _ c.put-in-strip.new.strip (n * n) (sym e) (omega (arith, b.2)) c.put-in-strip.ensures in
-    (b.0, (b.1, (b.2, (c.put-in-strip.array_long, (ap (finished n) g ∙ sym c.if-not-is-finished.ensures, tt)))))
+    let g = strip_front c.args.grid.now _ c.put_in_strip.new.strip (n * n) (sym e) (omega (arith, b.2)) c.put_in_strip.ensures in
+    record {
+      positive = b.0;
+      small = b.1;
+      square = b.2;
+      long = c.put_in_strip.array_long;
+      solved = ap (finished n) g ∙ sym c.if-not-is_finished.ensures;
+    }
 
 pub returns : goal.returns
 returns c =
     let n = c.args.size in
-    let b = size_bounds n c.if-not-is-size.ensures in
+    let b = size_bounds n c.if-not-is_size.ensures in
     let e = c.if-grid-size.false in
-    let g = strip_front c.args.grid.now _ c.put-in-strip.new.strip (n * n) (sym e) (omega (arith, b.2)) c.put-in-strip.ensures in
+    let g = strip_front c.args.grid.now _ c.put_in_strip.new.strip (n * n) (sym e) (omega (arith, b.2)) c.put_in_strip.ensures in
     ap (λ (x : List ℕ). Ok (n, x)) g
-    ∙ sym (made_ok n c.args.grid.now c.if-not-is-size.ensures c.if-grid-size.false c.if-not-is-finished.ensures)
+    ∙ sym (made_ok n c.args.grid.now c.if-not-is_size.ensures c.if-grid-size.false c.if-not-is_finished.ensures)

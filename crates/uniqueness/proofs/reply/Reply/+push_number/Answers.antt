@@ -15,8 +15,8 @@ returns-then-number-lt10 t c =
       filled = omega (arith, ap length one);
     }
 
-pub push-number-requires : goal.push-number-requires
-push-number-requires t c = (omega arith, omega (arith, longer c.args.number c.if-number-lt10.false (omega arith)))
+pub push_number-requires : goal.push_number-requires
+push_number-requires t c = (omega arith, omega (arith, longer c.args.number c.if-number-lt10.false (omega arith)))
 
 pub push-requires-2 : goal.push-requires-2
 push-requires-2 t c = omega (arith, longer c.args.number c.if-number-lt10.false (omega arith))
@@ -26,7 +26,7 @@ returns t c =
     let n = c.args.number in
     record {
       text =
-          more _ _ (text_of c.args.self.now) _ _ c.push-2.ensures.text c.push-number.ensures.text
+          more _ _ (text_of c.args.self.now) _ _ c.push-2.ensures.text c.push_number.ensures.text
           ∙ ap (λ x. text_of c.args.self.now ++ x) (sym (decimal_step n c.if-number-lt10.false (omega arith)));
       filled = omega (arith, longer c.args.number c.if-number-lt10.false (omega arith));
     }
