@@ -1,10 +1,10 @@
 -- Where two grids agree and differ.
-use Rattle.std.proofs.Common.{◌≡◌, ℕ, suc, ◌+◌, ◌^◌, ◌<◌, ◌≤◌, min, Bool, true, false, not, ◌&&◌, ◌||◌, eqb, ltb, ◌⊎◌, List, [], ◌∷◌, ◌++◌, length, get_or, take, drop, set, Decides, sym, refl, ap, ◌∙◌, ⊎_elim, append_assoc, add-one, arith, drop-cons}
+use Rattle.std.proofs.Common.{◌≡◌, ℕ, suc, ◌+◌, ◌^◌, ◌<◌, ◌≤◌, min, Bool, true, false, not, ◌&&◌, ◌||◌, eqb, ltb, List, [], ◌∷◌, ◌++◌, length, get_or, take, drop, set, Decides, sym, refl, ap, ◌∙◌, ⊎_elim, append_assoc, add-one, arith, drop-cons}
 use mathlib.Core.Bool.{and-true}
 use Rattle.std.proofs.lemmas.List.{take_all, take_at, take_more, take-append-drop, drop_at, set_at, length-take, length-take-le}
 use Rattle.std.proofs.lemmas.Bool.{eqb-true, eq-eqb, false≢true, true≢false, both_ways, and_parts, and_from, cases_lt, cases_Bool, lt-ltb}
 use Rattle.std.proofs.lemmas.Bool.Decides.{Decides-like, same_from_decides, Decides-not}
-use Rattle.cells.specs.Sets.{has, set_of, union, intersection, all_below, meets}
+use Rattle.cells.specs.Sets.{has, union, intersection, all_below, meets}
 use Rattle.cells.specs.Grids.{common, alike, agree, differ_below, differ, with_front, in_strip}
 use Rattle.cells.proofs.Bounded.{all_decides, all_same, all_both}
 use Rattle.cells.proofs.SetLaws.{has_above, has-set_of, set_of_below, has-union, has-intersection, meets_decides}

@@ -1,5 +1,5 @@
 -- The laws of sets of cells.
-use Rattle.std.proofs.Common.{◌≡◌, ℕ, zero, suc, ◌+◌, ◌-◌, ◌*◌, ◌/◌, ◌%◌, ◌^◌, ◌<◌, ◌≤◌, min, max, Bool, true, false, cond, not, ◌&&◌, ◌||◌, eqb, ltb, ◌⊎◌, Decides, sym, refl, ap, ◌∙◌, ap₂, ⊎_elim, add-mul, pow-suc, add-one, one-add, arith, pow_mono}
+use Rattle.std.proofs.Common.{◌≡◌, ℕ, zero, suc, ◌+◌, ◌-◌, ◌*◌, ◌/◌, ◌%◌, ◌^◌, ◌<◌, ◌≤◌, min, max, Bool, true, false, cond, not, ◌&&◌, ◌||◌, eqb, ltb, Decides, sym, refl, ap, ◌∙◌, ap₂, ⊎_elim, add-mul, pow-suc, add-one, one-add, arith, pow_mono}
 use mathlib.Core.Bool.{and-true, and-false, or-false}
 use native.Mathlib.Nat.{div-eq_of_lt, two-pow-succ}
 use lib.Bits.{bit_and, bit_or, and_step, and_shr, and_le_l, and_block, and_mask, and_zero_r, or_step, or_shr, or_lt, or_disjoint}

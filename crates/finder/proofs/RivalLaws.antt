@@ -1,5 +1,5 @@
 -- Why clues admit only the given grid exactly when they meet every rival.
-use Rattle.std.proofs.Common.{◌≡◌, ℕ, ◌^◌, ◌<◌, Bool, true, false, not, List, sym, ap, ◌∙◌, ⊎_elim}
+use Rattle.std.proofs.Common.{◌≡◌, true, false, not, sym, ap, ◌∙◌, ⊎_elim}
 use Rattle.std.proofs.lemmas.Bool.{cases_Bool, false≢true}
 use Rattle.cells.specs.Sets.{meets}
 use Rattle.cells.specs.Grids.{differ}

@@ -20,8 +20,8 @@ pub struct Pins<F> {
 
 /// The pins that are cells of the finder's grids; they leave the same solutions.
 fn pins_on_grid<F: Finder>(below: &F, pins: CellSet) -> CellSet
-    ensures pins { result ≡ pins_of pins (meaning below.now) }
-    ensures means { pinned result (meaning below.now) ≡ pinned pins (meaning below.now) }
+    ensures pins { result ≡ pins_of pins (F.meaning below.now) }
+    ensures means { pinned result (F.meaning below.now) ≡ pinned pins (F.meaning below.now) }
 {
     cells::intersection(pins, cells::all_below(below.count()))
 }
@@ -30,7 +30,7 @@ fn pins_on_grid<F: Finder>(below: &F, pins: CellSet) -> CellSet
 fn one_layer<F: Finder>(below: F, outer: CellSet, inner: CellSet) -> Pins<F>
     ensures below { result.below ≡ below }
     ensures pins { result.pins ≡ union outer inner }
-    ensures means { pinned result.pins (meaning result.below) ≡ pinned outer (pinned inner (meaning below)) }
+    ensures means { pinned result.pins (F.meaning result.below) ≡ pinned outer (pinned inner (F.meaning below)) }
 {
     let pins = cells::union(outer, inner);
     Pins { below, pins }
@@ -44,11 +44,11 @@ fn find_under<F: Finder>(
     strip: &mut [u8; 64],
     pad: &mut [u8; 64],
 ) -> Found
-    ensures answer { Answers (pinned pins (meaning below.old)) clues (named (cell_count (meaning below.old)) result strip.new) }
-    ensures strip { strip.new ≡ strip_after (named (cell_count (meaning below.old)) result strip.new) strip.old }
-    ensures asked { asked below.old (union clues pins) (named (cell_count (meaning below.old)) result strip.new) below.new }
+    ensures answer { Answers (pinned pins (F.meaning below.old)) clues (named (cell_count (F.meaning below.old)) result strip.new) }
+    ensures strip { strip.new ≡ strip_after (named (cell_count (F.meaning below.old)) result strip.new) strip.old }
+    ensures asked { F.asked below.old (union clues pins) (named (cell_count (F.meaning below.old)) result strip.new) below.new }
     ensures pad { pad.new ≡ pad.old }
-    ensures kept { pinned pins (meaning below.new) ≡ pinned pins (meaning below.old) }
+    ensures kept { pinned pins (F.meaning below.new) ≡ pinned pins (F.meaning below.old) }
 {
     below.find(cells::union(clues, pins), strip, pad)
 }
@@ -57,8 +57,8 @@ impl<F: Finder> Pins<F> {
     /// The finder under the pins. A pin that is no cell of the grid is no pin.
     pub fn new(below: F, pins: CellSet) -> Pins<F>
         ensures below { result.below ≡ below }
-        ensures pins { result.pins ≡ pins_of pins (meaning below) }
-        ensures means { pinned result.pins (meaning result.below) ≡ pinned pins (meaning below) }
+        ensures pins { result.pins ≡ pins_of pins (F.meaning below) }
+        ensures means { pinned result.pins (F.meaning result.below) ≡ pinned pins (F.meaning below) }
     {
         let pins = pins_on_grid(&below, pins);
         Pins { below, pins }
@@ -70,7 +70,7 @@ impl<F: Finder> Pins<Pins<F>> {
     pub fn merged(self) -> Pins<F>
         ensures below { result.below ≡ self.below.below }
         ensures pins { result.pins ≡ union self.pins self.below.pins }
-        ensures means { pinned result.pins (meaning result.below) ≡ pinned self.pins (pinned self.below.pins (meaning self.below.below)) }
+        ensures means { pinned result.pins (F.meaning result.below) ≡ pinned self.pins (pinned self.below.pins (F.meaning self.below.below)) }
     {
         let Pins { below: layer, pins } = self;
         let Pins { below, pins: inner } = layer;
@@ -79,11 +79,11 @@ impl<F: Finder> Pins<Pins<F>> {
 }
 
 impl<F: Finder> Finder for Pins<F> {
-    ghost meaning = { λ p. pinned p.pins (F.Finder.meaning p.below) };
+    ghost meaning = { λ p. pinned p.pins (F.meaning p.below) };
 
-    ghost asked = { λ p clues answer q. F.Finder.asked p.below (union clues p.pins) answer q.below × (q.pins ≡ p.pins) };
+    ghost asked = { λ p clues answer q. F.asked p.below (union clues p.pins) answer q.below × (q.pins ≡ p.pins) };
 
-    ghost lawful = { λ f. pinned_lawful (F.Finder.meaning f.below) f.pins (F.Finder.lawful f.below) };
+    ghost lawful = { λ f. pinned_lawful (F.meaning f.below) f.pins (F.lawful f.below) };
 
     fn count(&self) -> usize {
         self.below.count()

@@ -11,20 +11,20 @@ use cells::CellSet;
 
 /// Whether the clues admit only the given grid. They do exactly when they meet the difference set of every rival.
 pub fn admits_only<F: Finder>(finder: &mut F, clues: CellSet) -> bool
-    ensures answer { Decides result (AdmitsOnly (meaning finder.old) clues) }
-    ensures meets { AdmitsIffMeets (meaning finder.old) }
-    ensures asked { (answer : Option (List ℕ)) × asked finder.old clues answer finder.new × (result ≡ not (is_some answer)) }
-    ensures kept { meaning finder.new ≡ meaning finder.old }
+    ensures answer { Decides result (AdmitsOnly (F.meaning finder.old) clues) }
+    ensures meets { AdmitsIffMeets (F.meaning finder.old) }
+    ensures asked { (answer : Option (List ℕ)) × F.asked finder.old clues answer finder.new × (result ≡ not (is_some answer)) }
+    ensures kept { F.meaning finder.new ≡ F.meaning finder.old }
 {
     no_rival_agrees(finder, clues)
 }
 
 /// Whether the finder, when asked, answers none.
 fn no_rival_agrees<F: Finder>(finder: &mut F, clues: CellSet) -> bool
-    ensures answer { Decides result (AdmitsOnly (meaning finder.old) clues) }
-    ensures meets { AdmitsIffMeets (meaning finder.old) }
-    ensures asked { (answer : Option (List ℕ)) × asked finder.old clues answer finder.new × (result ≡ not (is_some answer)) }
-    ensures kept { meaning finder.new ≡ meaning finder.old }
+    ensures answer { Decides result (AdmitsOnly (F.meaning finder.old) clues) }
+    ensures meets { AdmitsIffMeets (F.meaning finder.old) }
+    ensures asked { (answer : Option (List ℕ)) × F.asked finder.old clues answer finder.new × (result ≡ not (is_some answer)) }
+    ensures kept { F.meaning finder.new ≡ F.meaning finder.old }
 {
     let mut strip = [0; 64];
     let mut pad = [0; 64];
@@ -37,11 +37,11 @@ fn no_rival_agrees<F: Finder>(finder: &mut F, clues: CellSet) -> bool
 /// Whether the cell is a clue that can be spared: the clues without it still admit only the given grid. A cell that is no clue asks
 /// for nothing.
 pub fn can_spare<F: Finder>(finder: &mut F, clues: CellSet, cell: usize) -> bool
-    ensures answer { Decides result (CanSpare (meaning finder.old) clues cell) }
+    ensures answer { Decides result (CanSpare (F.meaning finder.old) clues cell) }
     ensures asked { MatchBool (has clues cell)
-        ((answer : Option (List ℕ)) × asked finder.old (without clues cell) answer finder.new × (result ≡ not (is_some answer)))
+        ((answer : Option (List ℕ)) × F.asked finder.old (without clues cell) answer finder.new × (result ≡ not (is_some answer)))
         (finder.new ≡ finder.old) }
-    ensures kept { meaning finder.new ≡ meaning finder.old }
+    ensures kept { F.meaning finder.new ≡ F.meaning finder.old }
 {
     if !cells::has(clues, cell) {
         return false;
@@ -51,15 +51,15 @@ pub fn can_spare<F: Finder>(finder: &mut F, clues: CellSet, cell: usize) -> bool
 
 /// Puts the given grid in the first bytes of the strip, one for each cell; the rest of the strip stays as it is.
 pub fn put_given<F: Finder>(finder: &F, strip: &mut [u8; 64])
-    ensures { strip.new ≡ in_strip (meaning finder.now).given strip.old }
+    ensures { strip.new ≡ in_strip (F.meaning finder.now).given strip.old }
 {
     copy_values(finder, finder.count(), strip);
 }
 
 /// Copies the given grid's first `count` values.
 fn copy_values<F: Finder>(finder: &F, count: usize, strip: &mut [u8; 64])
-    requires { count ≤ cell_count (meaning finder.now) }
-    ensures { strip.new ≡ with_front count (meaning finder.now).given strip.old }
+    requires { count ≤ cell_count (F.meaning finder.now) }
+    ensures { strip.new ≡ with_front count (F.meaning finder.now).given strip.old }
 {
     for cell in 0..count {
         strip[cell] = finder.value(cell);
@@ -68,7 +68,7 @@ fn copy_values<F: Finder>(finder: &F, count: usize, strip: &mut [u8; 64])
 
 /// Whether the grid agrees with the given grid on the set.
 pub(crate) fn agrees<F: Finder>(finder: &F, set: CellSet, grid: &[u8]) -> bool
-    ensures { result ≡ agree set (meaning finder.now).given grid.now }
+    ensures { result ≡ agree set (F.meaning finder.now).given grid.now }
 {
     let mut given = [0; 64];
     put_given(finder, &mut given);

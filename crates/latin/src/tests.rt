@@ -32,7 +32,7 @@ fn size_two_has_one_rival(rt: HostRuntime) -> Result<(), Fail> {
     let given = [1, 2, 2, 1];
     let (found, strip) = search(2, &given, 0)?;
     assert_eq!(rt; found, Found::Rival);
-    assert!(rt; &strip[0..5] == &[2, 1, 1, 2, 9]);
+    assert!(rt; strip[0..5] == [2, 1, 1, 2, 9]);
     assert_eq!(rt; difference(&given, &strip[0..4]), 15);
     Ok(())
 }
@@ -44,7 +44,7 @@ fn two_clues_of_size_three(rt: HostRuntime) -> Result<(), Fail> {
     assert_eq!(rt; found, Found::NoRival);
     let (found, strip) = search(3, &given, with(with(0, 1), 3))?;
     assert_eq!(rt; found, Found::Rival);
-    assert!(rt; &strip[0..9] == &[3, 2, 1, 2, 1, 3, 1, 3, 2]);
+    assert!(rt; strip[0..9] == [3, 2, 1, 2, 1, 3, 1, 3, 2]);
     Ok(())
 }
 

@@ -1,5 +1,6 @@
 //! Answers whether the clues of a question on standard input admit only its grid.
 #![tactic(auto)]
+
 use std::io::Write;
 
 /// How much of the input is read. A question has at most 109 bytes, so that what is cut off decides nothing.

@@ -1,5 +1,6 @@
 //! The text of a question: how it is read from standard input, its lines in order, and what each must hold.
 #![tactic(auto)]
+
 mod input;
 mod lines;
 mod question;

@@ -1,6 +1,7 @@
 //! Takes clues away from a Latin grid of size 6, first cell first, as long as the rest admit only that grid: 36 questions, which
 //! leave a minimal clue set.
 #![tactic(auto)]
+
 use cells::{all_below, without};
 use latin::{Found, Latin};
 use std::io;

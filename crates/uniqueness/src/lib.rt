@@ -1,5 +1,6 @@
 //! Whether the clues of a question admit only its grid: from the text of the question to the text of the reply.
 #![tactic(auto)]
+
 mod replies;
 mod reply;
 mod write;

@@ -1,39 +1,34 @@
 use crate::reply_to_text;
 use std::io::Read;
-use std::process::Abort;
 use std::test::Fail;
 use text::read_front;
 
 /// Whether the reply to the text is as expected.
-fn says(rt: &impl Abort, text: &[u8], expected: &[u8]) {
+fn says(text: &[u8], expected: &[u8]) -> bool {
     let reply = reply_to_text(text);
-    assert!(rt; reply.as_bytes() == expected);
+    reply.as_bytes() == expected
 }
 
 #[test]
 fn answers(rt: HostRuntime) {
     let text = b"kind=latin\nsize=2\ngrid=1221\nmap=-\nclues=....\n";
-    says(&rt, text, b"rival=2112\ndiffers=####\n");
+    assert!(rt; says(text, b"rival=2112\ndiffers=####\n"));
     let text = b"kind=latin\nsize=2\ngrid=1221\nmap=-\nclues=..#.\n";
-    says(&rt, text, b"rival=none\n");
+    assert!(rt; says(text, b"rival=none\n"));
 }
 
 #[test]
 fn refusals(rt: HostRuntime) {
-    says(&rt, b"", b"refused=11\nline=1\n");
-    says(
-        &rt,
-        b"kind=latin\nsize=2\ngrid=1221\n",
-        b"refused=11\nline=4\n",
-    );
-    says(&rt, b"kind=latin\nsize=7\n", b"refused=12\nline=2\n");
-    says(&rt, b"kind=latin\nsize=7", b"refused=11\nline=2\n");
+    assert!(rt; says(b"", b"refused=11\nline=1\n"));
+    assert!(rt; says(b"kind=latin\nsize=2\ngrid=1221\n", b"refused=11\nline=4\n"));
+    assert!(rt; says(b"kind=latin\nsize=7\n", b"refused=12\nline=2\n"));
+    assert!(rt; says(b"kind=latin\nsize=7", b"refused=11\nline=2\n"));
     let text = b"kind=latin\nsize=2\ngrid=1212\nmap=-\nclues=....\n";
-    says(&rt, text, b"refused=15\nline=3\n");
+    assert!(rt; says(text, b"refused=15\nline=3\n"));
     let text = b"kind=latin\nsize=2\ngrid=1212\nmap=-\nclues=...-\n";
-    says(&rt, text, b"refused=11\nline=5\n");
+    assert!(rt; says(text, b"refused=11\nline=5\n"));
     let text = b"kind=latin\nsize=2\ngrid=1221\nmap=-\nclues=....\n\n";
-    says(&rt, text, b"refused=11\nline=6\n");
+    assert!(rt; says(text, b"refused=11\nline=6\n"));
 }
 
 #[test]

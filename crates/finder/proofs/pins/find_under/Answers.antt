@@ -1,5 +1,4 @@
-use Rattle.std.proofs.Common.{ℕ, ap, subst, arith, rules}
-use Rattle.cells.specs.Sets.{union}
+use Rattle.std.proofs.Common.{ℕ, ap, subst, arith}
 use Rattle.finder.specs.Meaning.{cell_count}
 use Rattle.finder.specs.Finding.{named, Answers}
 use Rattle.finder.specs.Pinning.{pinned}

@@ -1,4 +1,4 @@
-use Rattle.std.proofs.Common.{refl, rules}
+use Rattle.std.proofs.Common.{refl}
 use mathlib.Core.Bool.{false≢true}
 use Rattle.finder.proofs.RivalLaws.{admits_iff_meets}
 use Rattle.finder.proofs.questions.no_rival_agrees.Goals as goal

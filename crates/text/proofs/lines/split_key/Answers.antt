@@ -19,8 +19,8 @@ returns-in-109 c = sym (ap key_value (known (codes "map=") c.args.line.now (sear
 pub returns-in-99 : goal.returns-in-99
 returns-in-99 c = sym (ap key_value (known (codes "clues=") c.args.line.now (search rules) (search rules)))
 
-pub returns-in-default : goal.returns-in-default
-returns-in-default c =
+pub returns-in_default : goal.returns-in_default
+returns-in_default c =
     let line = c.args.line.now in
     sym
     (other kind (codes "kind=") line _ (λ l r. search rules)

@@ -2,8 +2,8 @@ use Rattle.std.proofs.Common.{rules}
 use Rattle.text.proofs.LineLaws.{counted}
 use Rattle.text.proofs.question.read_clues.Goals as goal
 
-pub returns-in-default : goal.returns-in-default
-returns-in-default c =
+pub returns-in_default : goal.returns-in_default
+returns-in_default c =
     let number = counted 5 c.args.text.now c.in_ok-line.ensures in
     search (rules, number)
 

@@ -5,8 +5,8 @@ use Rattle.text.proofs.LineLaws.{counted}
 use Rattle.text.proofs.question.read_grid.Goals as goal
 use Rattle.text.proofs.question.read_grid.Goals.{else-value-cells-via-then-value-cells+else-all_digits, else-value-cells-via-else-value-cells}
 
-pub returns-in-default : goal.returns-in-default
-returns-in-default c =
+pub returns-in_default : goal.returns-in_default
+returns-in_default c =
     let number = counted 3 c.args.text.now c.in_ok-line.ensures in
     search (rules, number)
 

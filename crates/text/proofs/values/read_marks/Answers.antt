@@ -10,8 +10,8 @@ use Rattle.text.proofs.values.read_marks.Goals.{in-35, in-46}
 pub loop-cell-init : goal.loop-cell-init
 loop-cell-init c = (set_of_none (marked c.args.value.now), refl)
 
-pub returns-in-default : goal.returns-in-default
-returns-in-default c =
+pub returns-in_default : goal.returns-in_default
+returns-in_default c =
     let value = c.args.value.now in
     let cell = c.loop-cell.cell in
     let mark : ℕ = get_or c.args.value.now c.loop-cell.cell 0 in

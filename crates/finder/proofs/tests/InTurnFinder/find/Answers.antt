@@ -1,7 +1,7 @@
-use Rattle.std.proofs.Common.{◌≡◌, ℕ, ◌+◌, ◌<◌, Bool, true, false, cond, not, ◌&&◌, eqb, ltb, List, [], ◌∷◌, length, get_or, take, Some, None, Option, sym, refl, ap, ◌∙◌, subst, ap₂, arith, rules}
+use Rattle.std.proofs.Common.{◌≡◌, ℕ, ◌<◌, Bool, true, false, cond, not, ◌&&◌, eqb, ltb, List, [], ◌∷◌, length, get_or, take, Some, None, sym, refl, ap, ◌∙◌, subst, arith, rules}
 use Rattle.std.proofs.lemmas.Bool.{and_parts, eqb-true, lt-ltb, both_ways, cond-true, cond-false}
 use Rattle.cells.specs.Sets.{has}
-use Rattle.cells.specs.Grids.{agree, in_strip}
+use Rattle.cells.specs.Grids.{in_strip}
 use Rattle.cells.proofs.GridLaws.{agree_decides}
 use Rattle.finder.specs.Meaning.{Meaning}
 use Rattle.finder.specs.Rivals.{AgreeingRival, AdmitsOnly}
