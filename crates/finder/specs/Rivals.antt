@@ -1,20 +1,21 @@
 -- Rivals, and what a clue set does about them. A clue set is any set of cells; cells that the grids do not have are ignored.
-use Rattle.std.specs.Prelude.{◌≡◌, ℕ, ◌^◌, ◌<◌, ◌≤◌, true, List, ◌≢◌, count_ones}
+use Rattle.std.specs.Prelude.{◌≡◌, ℕ, ◌^◌, ◌<◌, ◌≤◌, true, List, count_ones}
 use Rattle.cells.specs.Sets.{has, without, meets}
-use Rattle.cells.specs.Grids.{agree, differ}
+use Rattle.cells.specs.Grids.{differ}
+use Rattle.cells.specs.Rivals.{Rival as RivalAmong, AgreeingRival as AgreeingRivalAmong, AdmitsOnly as AdmitsOnlyAmong}
 use Rattle.finder.specs.Meaning.{Meaning}
 
 -- A rival is a solution other than the given grid.
 abbrev pub Rival : Meaning → List ℕ → Type 0
-Rival m g = (m.solves g ≡ true) × (g ≢ m.given)
+Rival m = RivalAmong m.solves m.given
 
 -- A rival that agrees with the given grid on the clues, so that the clues do not tell the two apart.
 abbrev pub AgreeingRival : Meaning → ℕ → List ℕ → Type 0
-AgreeingRival m clues g = Rival m g × (agree clues m.given g ≡ true)
+AgreeingRival m = AgreeingRivalAmong m.solves m.given
 
 -- The clues admit only the given grid: no rival agrees with it on them.
 abbrev pub AdmitsOnly : Meaning → ℕ → Type 0
-AdmitsOnly m clues = (g : List ℕ) → AgreeingRival m clues g → ⊥
+AdmitsOnly m = AdmitsOnlyAmong m.solves m.given
 
 -- A clue can be spared if the clues without it still admit only the given grid.
 abbrev pub CanSpare : Meaning → ℕ → ℕ → Type 0

@@ -1,3 +1,4 @@
 pub mod Rules
 pub mod Puzzle
 pub mod Search
+pub mod Lawful

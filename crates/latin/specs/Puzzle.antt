@@ -2,6 +2,7 @@
 use Rattle.std.specs.Prelude.{ℕ, ◌*◌, Bool, cond, List, length, take, Ok, Err, Result, ◌==◌}
 use Rattle.cells.specs.Refusals.{number_of}
 use Rattle.cells.specs.declared.refusal.Refusal.{Refusal}
+use Rattle.finder.specs.Meaning.{Meaning}
 use Rattle.latin.specs.declared.puzzle.Latin.{Latin}
 use Rattle.latin.specs.Rules.{is_size, finished}
 
@@ -14,6 +15,10 @@ given p = take (cell_count p) p.values
 
 abbrev pub solves : Latin → List ℕ → Bool
 solves p = finished p.size
+
+-- What the puzzle is to a finder.
+abbrev pub meaning_of : Latin → Meaning
+meaning_of p = record { given = given p; solves = solves p }
 
 -- The size and the given grid of the puzzle that is made of n and g, or the refusal's number:
 -- 12 for a size that Latin puzzles do not have, else 11 for a wrong number of values, else 15 for a grid that is not finished.

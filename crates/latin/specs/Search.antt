@@ -1,13 +1,14 @@
 -- What a search for a rival answers, and what it leaves in the strip.
-use Rattle.std.specs.Prelude.{◌≡◌, ℕ, ◌+◌, ◌/◌, ◌%◌, ◌<◌, Bool, true, false, List, ◌≢◌, slice_index}
+use Rattle.std.specs.Prelude.{◌≡◌, ℕ, ◌+◌, ◌/◌, ◌%◌, ◌<◌, Bool, true, false, List, ◌≢◌, slice_index, Option}
 use Rattle.cells.specs.Sets.{has}
 use Rattle.cells.specs.Grids.{in_strip}
 use Rattle.cells.specs.Rivals.{AgreeingRival, AdmitsOnly}
+use Rattle.finder.specs.declared.found.Found.{Found}
+use Rattle.finder.specs.declared.found.Found.TheVariants.{Rival, NoRival}
+use Rattle.finder.specs.Finding.{Answers}
 use Rattle.latin.specs.declared.puzzle.Latin.{Latin}
-use Rattle.latin.specs.declared.search.Found.{Found}
-use Rattle.latin.specs.declared.search.Found.TheVariants.{Rival, NoRival}
 use Rattle.latin.specs.Rules.{line_of}
-use Rattle.latin.specs.Puzzle.{given, solves}
+use Rattle.latin.specs.Puzzle.{given, solves, meaning_of}
 
 -- The grid is a rival of the puzzle's given grid that agrees with it on the clues.
 abbrev pub IsAgreeingRival : Latin → ℕ → List ℕ → Type 0
@@ -21,6 +22,10 @@ Holds p clues before after = (g : List ℕ) × IsAgreeingRival p clues g × (aft
 abbrev pub Finds : Latin → ℕ → Found → List ℕ → List ℕ → Type 0
 Finds p clues Rival before after = Holds p clues before after
 Finds p clues NoRival before after = AdmitsOnly (solves p) (given p) clues × (after ≡ before)
+
+-- A question leaves the puzzle as it was, and its answer is right. Which of several rivals is named is left free.
+abbrev pub Asks : Latin → ℕ → Option (List ℕ) → Latin → Type 0
+Asks p clues answer q = (q ≡ p) × Answers (meaning_of p) clues answer
 
 -- Two grids have the same values in the cells below k.
 abbrev pub SameBelow : ℕ → List ℕ → List ℕ → Type 0

@@ -6,15 +6,7 @@ ghost use Rattle.latin.specs.Search.{IsAgreeingRival, Finds, FindsFrom, Unused, 
 use crate::puzzle::Latin;
 use crate::rules::cell_at;
 use cells::CellSet;
-
-/// What a search for a rival found.
-#[derive(Clone, Copy, Debug, PartialEq, Eq)]
-pub enum Found {
-    /// A rival; it is in the strip.
-    Rival,
-    /// None: the clues admit only the given grid.
-    NoRival,
-}
+use finder::Found;
 
 /// A cell of the lent pad that is filled on trial; its old value comes back when the trial ends.
 struct Trial<'a> {

@@ -1,5 +1,6 @@
 use crate::{Found, Latin};
 use cells::{CellSet, Refusal, all_below, difference, with};
+use finder::{Finder, Pins, admits_only};
 use std::test::Fail;
 
 /// A search with a used pad, and the strip that it left.
@@ -45,6 +46,23 @@ fn two_clues_of_size_three(rt: HostRuntime) -> Result<(), Fail> {
     let (found, strip) = search(3, &given, with(with(0, 1), 3))?;
     assert_eq!(rt; found, Found::Rival);
     assert!(rt; strip[0..9] == [3, 2, 1, 2, 1, 3, 1, 3, 2]);
+    Ok(())
+}
+
+#[test]
+fn pins_over_pins(rt: HostRuntime) -> Result<(), Fail> {
+    let given = [1, 2, 3, 2, 3, 1, 3, 1, 2];
+    let rival = [3, 2, 1, 2, 1, 3, 1, 3, 2];
+    let mut pinned = Pins::new(Pins::new(Latin::new(3, &given)?, with(0, 2)), with(0, 3));
+    assert!(rt; admits_only(&mut pinned, 0) && pinned.judge(&given) && !pinned.judge(&rival));
+    let mut pinned = Pins::new(Pins::new(Latin::new(3, &given)?, with(0, 1)), with(0, 9));
+    assert!(rt; !admits_only(&mut pinned, with(0, 3)) && pinned.judge(&rival));
+    let mut strip = [9; 64];
+    assert_eq!(rt;
+        pinned.merged().find(with(0, 3), &mut strip, &mut [7; 64]),
+        Found::Rival
+    );
+    assert!(rt; &strip[0..9] == rival.as_slice());
     Ok(())
 }
 
