@@ -1,2 +1,3 @@
 pub mod RivalLaws
 pub mod SearchLaws
+pub mod PinLaws

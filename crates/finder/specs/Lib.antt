@@ -3,5 +3,5 @@ pub mod Rivals
 pub mod Finding
 pub mod Pinning
 pub mod Searching
-pub mod PinLaws
-pub mod InTurnFinderLemmas
+pub mod Lawful
+pub mod InTurn

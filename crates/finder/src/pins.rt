@@ -4,7 +4,7 @@ ghost use Rattle.cells.specs.Sets.{union};
 ghost use Rattle.finder.specs.Meaning.{cell_count};
 ghost use Rattle.finder.specs.Finding.{named, Answers, strip_after};
 ghost use Rattle.finder.specs.Pinning.{pinned, pins_of};
-ghost use Rattle.finder.specs.PinLaws.{pinned_lawful};
+ghost use Rattle.finder.specs.Lawful.{pinned_lawful};
 
 use crate::finder::Finder;
 use crate::found::Found;

@@ -1,8 +1,6 @@
-ghost use Rattle.std.specs.Prelude.{◌≡◌, not, ◌&&◌, [], ◌∷◌, length, if◌then◌else◌, Some, None, ◌==◌, nat_lt, slice_index, refl};
-ghost use Rattle.std.proofs.Common.{lit≤, arith};
+ghost use Rattle.std.specs.Prelude.{◌≡◌, not, [], ◌∷◌, if◌then◌else◌, Some, None};
 ghost use Rattle.cells.specs.Sets.{has};
-ghost use Rattle.std.proofs.lemmas.Bool.{and_parts, eqb-true, ltb-true};
-ghost use Rattle.finder.specs.InTurnFinderLemmas.{small};
+ghost use Rattle.finder.specs.InTurn.{in_turn, in_turn_lawful};
 
 use crate::{Finder, Found, Pins, admits_only, can_spare};
 use cells::CellSet;
@@ -14,21 +12,12 @@ struct InTurn {
 }
 
 impl Finder for InTurn {
-    ghost meaning = { λ _. record { given = 0 ∷ []; solves = λ g. (length g == 1) && nat_lt (slice_index g 0) 3 } };
+    ghost meaning = { λ _. in_turn };
 
     ghost asked = { λ f clues answer after.
         (answer ≡ (if has clues 0 then None else Some ((if f.second then 2 else 1) ∷ []))) × (after.second ≡ (if has clues 0 then f.second else not f.second)) };
 
-    ghost lawful = { λ f.
-        record {
-          some = lit≤ tt;
-          few = lit≤ tt;
-          solved = refl;
-          sized = λ g e. eqb-true (length g) 1 (and_parts (length g == 1) (nat_lt (slice_index g 0) 3) e).0;
-          bytes = λ g e.
-              let p = and_parts (length g == 1) (nat_lt (slice_index g 0) 3) e in
-              small g (omega (arith, eqb-true (length g) 1 p.0)) (ltb-true (slice_index g 0) 3 p.1);
-        } };
+    ghost lawful = { λ _. in_turn_lawful };
 
     fn count(&self) -> usize {
         1

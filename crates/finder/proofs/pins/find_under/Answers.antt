@@ -2,7 +2,7 @@ use Rattle.std.proofs.Common.{ℕ, ap, subst, arith}
 use Rattle.finder.specs.Meaning.{cell_count}
 use Rattle.finder.specs.Finding.{named, Answers}
 use Rattle.finder.specs.Pinning.{pinned}
-use Rattle.finder.specs.PinLaws.{answers_pinned}
+use Rattle.finder.proofs.PinLaws.{answers_pinned}
 use Rattle.finder.proofs.pins.find_under.Goals as goal
 
 pub returns : goal.returns

@@ -1,6 +1,6 @@
 use Rattle.std.proofs.Common.{refl, ap, ◌∙◌, arith}
 use Rattle.finder.specs.Pinning.{pinned}
-use Rattle.finder.specs.PinLaws.{pinned_twice}
+use Rattle.finder.proofs.PinLaws.{pinned_twice}
 use Rattle.finder.proofs.pins.one_layer.Goals as goal
 
 pub returns : goal.returns

@@ -1,7 +1,7 @@
 use Rattle.std.proofs.Common.{◌≡◌, ap, ◌∙◌, arith}
 use Rattle.cells.specs.Sets.{intersection, all_below}
 use Rattle.finder.specs.Pinning.{pinned, pins_of}
-use Rattle.finder.specs.PinLaws.{pinned_inside}
+use Rattle.finder.proofs.PinLaws.{pinned_inside}
 use Rattle.finder.proofs.pins.pins_on_grid.Goals as goal
 
 pub returns : goal.returns

@@ -1,27 +1,24 @@
-use Rattle.std.proofs.Common.{◌≡◌, ℕ, ◌<◌, Bool, true, false, cond, not, ◌&&◌, eqb, ltb, List, [], ◌∷◌, length, get_or, take, Some, None, sym, refl, ap, ◌∙◌, subst, arith, rules}
+use Rattle.std.proofs.Common.{◌≡◌, ℕ, ◌<◌, Bool, true, false, cond, not, eqb, ltb, List, [], ◌∷◌, length, get_or, take, Some, None, sym, refl, ap, ◌∙◌, subst, arith, rules}
 use Rattle.std.proofs.lemmas.Bool.{and_parts, eqb-true, lt-ltb, both_ways, cond-true, cond-false}
 use Rattle.cells.specs.Sets.{has}
 use Rattle.cells.specs.Grids.{in_strip}
 use Rattle.cells.proofs.GridLaws.{agree_decides}
-use Rattle.finder.specs.Meaning.{Meaning}
+use Rattle.finder.specs.InTurn.{in_turn}
 use Rattle.finder.specs.Rivals.{AgreeingRival, AdmitsOnly}
 use Rattle.finder.proofs.tests.InTurnFinder.find.Goals as goal
 use Rattle.finder.proofs.tests.InTurnFinder.find.Goals.{then-self, else-self}
-
-abbrev toy : Meaning
-toy = record { given = 0 ∷ []; solves = λ g. eqb (length g) 1 && ltb (get_or g 0 0) 3 }
 
 one_cell : (g : List ℕ) → length g ≡ 1 → 0 ≡ get_or g 0 0 → g ≡ 0 ∷ []
 one_cell [] l e = absurd (omega arith)
 one_cell (v ∷ []) l e = ap (λ x. x ∷ []) (sym e)
 one_cell (v ∷ (u ∷ g)) l e = absurd (omega arith)
 
-only : (clues : ℕ) → has clues 0 ≡ true → AdmitsOnly toy clues
+only : (clues : ℕ) → has clues 0 ≡ true → AdmitsOnly in_turn clues
 only clues h g a =
     let one = eqb-true (length g) 1 (and_parts (eqb (length g) 1) (ltb (get_or g 0 0) 3) a.0.0).0 in
     a.0.1 (one_cell g one ((agree_decides clues (0 ∷ []) g).0 a.1 0 (omega arith) h))
 
-rival : (clues v : ℕ) → has clues 0 ≡ false → 0 < v → v < 3 → AgreeingRival toy clues (v ∷ [])
+rival : (clues v : ℕ) → has clues 0 ≡ false → 0 < v → v < 3 → AgreeingRival in_turn clues (v ∷ [])
 rival clues v f p l = (
   (lt-ltb v 3 l, λ e. let z : v ≡ 0 = ap (λ g. get_or g 0 0) e in omega arith),
   (agree_decides clues (0 ∷ []) (v ∷ [])).1
@@ -54,7 +51,7 @@ returns c =
     elim c.if-self.branch [ then-self w ↦ (omega (arith, w.value-is), omega (arith, w.value-is)) | else-self w ↦ (omega (arith, w.value-is), omega (arith, w.value-is)) ] in
     let front : take 1 after ≡ c.if-self.value ∷ [] = ap (take 1) c.put_in_strip.ensures in
     record {
-      answer = subst (λ (g : List ℕ). AgreeingRival toy clues g) (sym front) (rival clues c.if-self.value f bounds.0 bounds.1);
+      answer = subst (λ (g : List ℕ). AgreeingRival in_turn clues g) (sym front) (rival clues c.if-self.value f bounds.0 bounds.1);
       strip = c.put_in_strip.ensures ∙ ap (λ g. in_strip g c.args.strip.now) (sym front);
       asked = (
         ap Some (front ∙ ap (λ v. v ∷ []) value) ∙ sym (cond-false (has clues 0) None _ f),

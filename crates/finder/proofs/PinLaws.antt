@@ -1,14 +1,13 @@
 -- What pins make of a finder's meaning and of its answers.
-use Rattle.std.specs.Prelude.{◌≡◌, ℕ, ◌^◌, ◌<◌, ◌≤◌, Bool, ◌&&◌, List, Some, None, Option}
-use Rattle.std.proofs.Common.{sym, ap, ◌∙◌}
+use Rattle.std.proofs.Common.{◌≡◌, ℕ, ◌^◌, ◌<◌, ◌≤◌, Bool, ◌&&◌, List, Some, None, Option, sym, ap, ◌∙◌}
 use Rattle.std.proofs.Math.Path.{fun_ext}
 use Rattle.std.proofs.Math.Bool.{and_assoc, and_comm}
 use Rattle.std.proofs.lemmas.Bool.{and_parts, and_from}
 use Rattle.cells.specs.Sets.{has, union, all_below}
 use Rattle.cells.specs.Grids.{agree}
 use Rattle.cells.proofs.SetLaws.{set_of_below}
-use Rattle.cells.proofs.GridLaws.{agree_self, agree-union, agree_inside}
-use Rattle.finder.specs.Meaning.{Meaning, cell_count, Lawful}
+use Rattle.cells.proofs.GridLaws.{agree-union, agree_inside}
+use Rattle.finder.specs.Meaning.{Meaning, cell_count}
 use Rattle.finder.specs.Rivals.{AgreeingRival}
 use Rattle.finder.specs.Finding.{Answers, NamesNearest}
 use Rattle.finder.specs.Pinning.{pinned, pins_of}
@@ -36,17 +35,6 @@ pinned_twice m outer inner l k =
     let a = agree outer m.given g in
     let b = agree inner m.given g in
     ap (λ x. m.solves g && x) (agree-union outer inner m.given g l k ∙ and_comm a b) ∙ sym (and_assoc (m.solves g) b a))
-
--- A meaning under pins is lawful.
-pub pinned_lawful : (m : Meaning) (pins : ℕ) → Lawful m → Lawful (pinned pins m)
-pinned_lawful m pins law =
-    record {
-      some = law.some;
-      few = law.few;
-      solved = and_from (m.solves m.given) (agree pins m.given m.given) law.solved (agree_self pins m.given);
-      sized = λ g e. law.sized g (and_parts (m.solves g) (agree pins m.given g) e).0;
-      bytes = λ g e. law.bytes g (and_parts (m.solves g) (agree pins m.given g) e).0;
-    }
 
 -- The rivals under pins are those below that agree on the pins too, so the answer below is the answer here.
 module _ (m : Meaning) (clues pins : ℕ) (l : clues < 2 ^ 64) (k : pins < 2 ^ 64) where
