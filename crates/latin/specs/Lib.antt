@@ -1,4 +1,5 @@
 pub mod Rules
 pub mod Puzzle
 pub mod Search
-pub mod Lawful
+pub mod SearchLaws
+pub mod RuleLaws

@@ -1,13 +1,13 @@
-//! The Latin puzzle: its rules, its judge and its search for a rival.
+//! The Latin puzzle: its rules, its judge and its search for a nearest rival.
 #![tactic(auto)]
 
 mod finding;
-mod judge;
+mod given;
 mod puzzle;
 mod rules;
 mod search;
+mod turns;
 
-pub use finder::Found;
 pub use puzzle::Latin;
 pub use rules::is_size;
 

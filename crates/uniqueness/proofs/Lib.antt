@@ -1,2 +1,1 @@
-pub mod ReplyLaws
 pub mod WriteLaws
