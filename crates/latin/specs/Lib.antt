@@ -1,5 +1,4 @@
 pub mod Rules
 pub mod Puzzle
 pub mod Search
-pub mod SearchLaws
-pub mod RuleLaws
+pub mod Lawful

@@ -1,21 +1,24 @@
 -- What a puzzle is made of, and when none is made.
-use Rattle.std.specs.Prelude.{ℕ, ◌*◌, cond, List, length, take, Ok, Err, Result, ◌==◌}
+use Rattle.std.specs.Prelude.{ℕ, ◌*◌, Bool, cond, List, length, take, Ok, Err, Result, ◌==◌}
 use Rattle.cells.specs.Refusals.{number_of}
 use Rattle.cells.specs.declared.refusal.Refusal.{Refusal}
 use Rattle.finder.specs.Meaning.{Meaning}
 use Rattle.latin.specs.declared.puzzle.Latin.{Latin}
-use Rattle.latin.specs.Rules.{is_size, finished, latin_meaning}
+use Rattle.latin.specs.Rules.{is_size, finished}
 
--- How many cells the puzzle's grids have, and its given grid.
-abbrev pub cells_of : Latin → ℕ
-cells_of p = p.size * p.size
+-- How many cells the puzzle's grids have, its given grid, and the test of its solutions.
+abbrev pub cell_count : Latin → ℕ
+cell_count p = p.size * p.size
 
 abbrev pub given : Latin → List ℕ
-given p = take (cells_of p) p.values
+given p = take (cell_count p) p.values
+
+abbrev pub solves : Latin → List ℕ → Bool
+solves p = finished p.size
 
 -- What the puzzle is to a finder.
 abbrev pub meaning_of : Latin → Meaning
-meaning_of p = latin_meaning p.size (given p)
+meaning_of p = record { given = given p; solves = solves p }
 
 -- The size and the given grid of the puzzle that is made of n and g, or the refusal's number:
 -- 12 for a size that Latin puzzles do not have, else 11 for a wrong number of values, else 15 for a grid that is not finished.

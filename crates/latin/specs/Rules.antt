@@ -1,7 +1,6 @@
 -- The rules of the Latin puzzle.
 use Rattle.std.specs.Prelude.{ℕ, ◌+◌, ◌-◌, ◌*◌, Bool, cond, ◌&&◌, List, nat_le, nat_lt}
 use Rattle.cells.specs.Lines.{keeps}
-use Rattle.finder.specs.Meaning.{Meaning}
 
 -- The sizes of Latin puzzles: a grid of size n has n rows of n cells, and cell r × n + c stands in row r and column c.
 abbrev pub is_size : ℕ → Bool
@@ -14,7 +13,3 @@ line_of n l k = cond (nat_lt l n) (l * n + k) (k * n + (l - n))
 -- A finished grid holds the values 1 to n, each once in every row and once in every column.
 abbrev pub finished : ℕ → List ℕ → Bool
 finished n g = keeps n (2 * n) (line_of n) g
-
--- What the puzzle with the given grid g of size n is to a finder: its solutions are the finished grids of that size.
-abbrev pub latin_meaning : ℕ → List ℕ → Meaning
-latin_meaning n g = record { given = g; solves = finished n }

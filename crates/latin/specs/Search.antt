@@ -1,18 +1,44 @@
--- The values that a search tries in a cell, and what it is asked.
-use Rattle.std.specs.Prelude.{◌≡◌, ℕ, ◌+◌, ◌/◌, ◌%◌, ◌<◌, true, cond, List, Option, ◌==◌, ◌≢◌, nat_lt, slice_index}
+-- What a search for a rival answers, and what it leaves in the strip.
+use Rattle.std.specs.Prelude.{◌≡◌, ℕ, ◌+◌, ◌/◌, ◌%◌, ◌<◌, Bool, true, false, List, ◌≢◌, slice_index, Option}
 use Rattle.cells.specs.Sets.{has}
-use Rattle.finder.specs.Finding.{NamesNearest}
+use Rattle.cells.specs.Grids.{in_strip}
+use Rattle.cells.specs.Rivals.{AgreeingRival, AdmitsOnly}
+use Rattle.finder.specs.declared.found.Found.{Found}
+use Rattle.finder.specs.declared.found.Found.TheVariants.{Rival, NoRival}
+use Rattle.finder.specs.Finding.{Answers}
 use Rattle.latin.specs.declared.puzzle.Latin.{Latin}
 use Rattle.latin.specs.Rules.{line_of}
-use Rattle.latin.specs.Puzzle.{meaning_of}
+use Rattle.latin.specs.Puzzle.{given, solves, meaning_of}
 
--- A question leaves the puzzle as it was, and names a nearest rival, if any.
+-- The grid is a rival of the puzzle's given grid that agrees with it on the clues.
+abbrev pub IsAgreeingRival : Latin → ℕ → List ℕ → Type 0
+IsAgreeingRival p clues g = AgreeingRival (solves p) (given p) clues g
+
+-- Such a rival was put in the strip.
+abbrev pub Holds : Latin → ℕ → List ℕ → List ℕ → Type 0
+Holds p clues before after = (g : List ℕ) × IsAgreeingRival p clues g × (after ≡ in_strip g before)
+
+-- What `find` answers: a rival, which the strip holds; or none, where the clues admit only the given grid, and the strip is as it was.
+abbrev pub Finds : Latin → ℕ → Found → List ℕ → List ℕ → Type 0
+Finds p clues Rival before after = Holds p clues before after
+Finds p clues NoRival before after = AdmitsOnly (solves p) (given p) clues × (after ≡ before)
+
+-- A question leaves the puzzle as it was, and its answer is right. Which of several rivals is named is left free.
 abbrev pub Asks : Latin → ℕ → Option (List ℕ) → Latin → Type 0
-Asks p clues answer q = (q ≡ p) × NamesNearest (meaning_of p) clues answer
+Asks p clues answer q = (q ≡ p) × Answers (meaning_of p) clues answer
 
--- The value that is tried in a cell at each turn: the given one at turn 0, and then the others in rising order, from 1 on.
-abbrev pub value_in_turn : ℕ → ℕ → ℕ
-value_in_turn given turn = cond (turn == 0) given (cond (nat_lt turn given) turn (turn + 1))
+-- Two grids have the same values in the cells below k.
+abbrev pub SameBelow : ℕ → List ℕ → List ℕ → Type 0
+SameBelow k g h = (c : ℕ) → c < k → slice_index g c ≡ slice_index h c
+
+-- No such rival begins with the pad's first k cells.
+abbrev pub DeadEnd : Latin → ℕ → List ℕ → ℕ → Type 0
+DeadEnd p clues pad k = (g : List ℕ) → IsAgreeingRival p clues g → SameBelow k g pad → ⊥
+
+-- What the search answers that goes on from the pad's first k cells.
+abbrev pub FindsFrom : Latin → ℕ → List ℕ → ℕ → Bool → List ℕ → List ℕ → Type 0
+FindsFrom p clues pad k true before after = Holds p clues before after
+FindsFrom p clues pad k false before after = DeadEnd p clues pad k × (after ≡ before)
 
 -- Of the n cells of the line, none that comes before the cell holds the value in the pad.
 abbrev pub Unused : (ℕ → ℕ) → ℕ → List ℕ → ℕ → ℕ → Type 0

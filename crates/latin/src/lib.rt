@@ -1,13 +1,13 @@
-//! The Latin puzzle: its rules, its judge and its search for a nearest rival.
+//! The Latin puzzle: its rules, its judge and its search for a rival.
 #![tactic(auto)]
 
 mod finding;
-mod given;
+mod judge;
 mod puzzle;
 mod rules;
 mod search;
-mod turns;
 
+pub use finder::Found;
 pub use puzzle::Latin;
 pub use rules::is_size;
 

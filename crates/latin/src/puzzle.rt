@@ -8,7 +8,6 @@ pub struct Latin {
     pub(crate) values: [u8; 64],
     ghost positive: { 1 ≤ size },
     ghost small: { size ≤ 6 },
-    ghost some: { 1 ≤ size * size },
     ghost square: { size * size ≤ 36 },
     ghost long: { length values ≡ 64 },
     ghost solved: { finished size (take (size * size) values) ≡ true },

@@ -3,7 +3,7 @@
 
 use std::io::Write;
 
-/// How much of the input is read. A question has at most 151 bytes, so that what is cut off decides nothing.
+/// How much of the input is read. A question has at most 109 bytes, so that what is cut off decides nothing.
 const MOST: usize = 20480;
 
 fn main(rt: HostRuntime) -> anyhow::Result<()> {

@@ -1,14 +1,14 @@
 -- A text is read as a question exactly if it is the text of a proper question.
-use Rattle.std.proofs.Common.{◌≡◌, ℕ, ◌+◌, ◌*◌, ◌^◌, ◌<◌, ◌≤◌, Bool, true, false, cond, not, ◌&&◌, eqb, ◌⊎◌, List, [], ◌∷◌, ◌++◌, length, Some, None, Ok, Err, codes, Option, Result, sym, refl, ap, ◌∙◌, subst, ap₂, inl, inr, ⊎_elim, arith}
+use Rattle.std.proofs.Common.{◌≡◌, ℕ, ◌+◌, ◌*◌, ◌^◌, ◌<◌, Bool, true, false, cond, not, ◌&&◌, eqb, ◌⊎◌, List, [], ◌∷◌, ◌++◌, length, Some, None, Ok, Err, codes, Option, Result, sym, refl, ap, ◌∙◌, subst, ap₂, inl, inr, ⊎_elim, arith}
 use Rattle.std.specs.Option.{option_map}
 use Rattle.std.specs.Str.{bytes_eq}
 use Rattle.std.proofs.lemmas.Bool.{cond-true, cond-false, cases_Bool, eq-eqb, ne_eqb, eqb-true, and_parts, and_from, not-true, not_from_false}
 use Rattle.std.proofs.lemmas.Slice.Eq.{bytes_eq-Decides}
 use Rattle.latin.specs.Rules.{is_size}
-use Rattle.latin.specs.RuleLaws.{size_bounds}
-use Rattle.text.specs.Lines.{Fault, longer, split_line, after, Key, kind, size, grid, map, pins, clues, key_text, KeyValue, under, as_key, key_value, numbered, line_from, next_line}
-use Rattle.text.specs.Values.{all_digits, one_digit, read_marks, cell_marks, marks_of}
-use Rattle.text.specs.Question.{then, line_number, or_form, value_under, key_line, kind_line, size_line, grid_line, map_line, marks_line, text_end, Asked, read_question}
+use Rattle.latin.proofs.RuleLaws.{size_bounds}
+use Rattle.text.specs.Lines.{Fault, longer, split_line, after, Key, kind, size, grid, map, clues, key_text, KeyValue, under, as_key, key_value, numbered, line_from, next_line}
+use Rattle.text.specs.Values.{all_digits, one_digit, read_marks, marks_of}
+use Rattle.text.specs.Question.{then, line_number, or_form, value_under, key_line, kind_line, size_line, grid_line, map_line, clues_line, text_end, Asked, read_question}
 use Rattle.text.proofs.ValueLaws.{passed, some_same, none_some, inline, digit_whole, digit_join, digits_inline, marks-length, marks_whole, marks_join, marks_inline}
 use Rattle.text.specs.Form.{line_then, question_text, Proper, TakesExactly}
 
@@ -81,9 +81,7 @@ key_value_lem line t e =
     (λ d. ⊎_elim (λ h. h)
     (λ d. ⊎_elim (λ h. h)
     (λ d. ⊎_elim (λ h. h)
-    (λ d. ⊎_elim (λ h. h)
     (λ d. ⊎_elim (λ h. h) (λ d. absurd (none_some d)) (as_key_lem clues line None t d))
-    (as_key_lem pins line _ t d))
     (as_key_lem map line _ t d))
     (as_key_lem grid line _ t d))
     (as_key_lem size line _ t d))
@@ -95,7 +93,6 @@ key_told kind value = refl
 key_told size value = refl
 key_told grid value = refl
 key_told map value = refl
-key_told pins value = refl
 key_told clues value = refl
 
 key_inline : (key : Key) (value : List ℕ) → inline (key_text key ++ value) ≡ inline value
@@ -103,7 +100,6 @@ key_inline kind value = refl
 key_inline size value = refl
 key_inline grid value = refl
 key_inline map value = refl
-key_inline pins value = refl
 key_inline clues value = refl
 
 -- The first line of a text, read and written.
@@ -129,7 +125,7 @@ next_join n key value rest h =
 
 -- The number of a line tells its key.
 key_at : ℕ → Key
-key_at n = cond (eqb n 1) kind (cond (eqb n 2) size (cond (eqb n 3) grid (cond (eqb n 4) map (cond (eqb n 5) pins clues))))
+key_at n = cond (eqb n 1) kind (cond (eqb n 2) size (cond (eqb n 3) grid (cond (eqb n 4) map clues)))
 
 key_at_lem : (key : Key) → key_at (line_number key) ≡ key
 unfolding key_at
@@ -137,7 +133,6 @@ key_at_lem kind = refl
 key_at_lem size = refl
 key_at_lem grid = refl
 key_at_lem map = refl
-key_at_lem pins = refl
 key_at_lem clues = refl
 
 -- The line of a key, read and written.
@@ -187,22 +182,6 @@ grid_whole cells v g e =
     let p = and_parts (eqb (length v) cells) (all_digits v) w.0 in
     (same, ap length (sym same) ∙ eqb-true (length v) cells p.0, ap all_digits (sym same) ∙ p.1)
 
--- A line of marks, read and written.
-marks_line_whole : (key : Key) (cells : ℕ) (text : List ℕ) (s : ℕ × List ℕ) (rest : List ℕ) → marks_line key cells text ≡ Ok s → s.1 ≡ rest
-    → (text ≡ line_then key (marks_of s.0 cells) rest) × (s.0 < 2 ^ cells)
-marks_line_whole key cells text s rest e r =
-    let w = key_whole key (cell_marks cells) text s.0 s.1 e in
-    let p = passed (eqb (length w.0) cells) (read_marks w.0) s.0 w.2 in
-    let n = eqb-true (length w.0) cells p.0 in
-    let v = marks_whole w.0 s.0 p.1 in
-    (w.1 ∙ ap₂ (line_then key) (v.0 ∙ ap (marks_of s.0) n) r, subst (λ (x : ℕ). s.0 < 2 ^ x) n v.1)
-
-marks_line_join : (key : Key) (cells s : ℕ) (rest : List ℕ) → cells ≤ 64 → s < 2 ^ cells
-    → marks_line key cells (line_then key (marks_of s cells) rest) ≡ Ok (s, rest)
-marks_line_join key cells s rest m h =
-    key_join key (cell_marks cells) (marks_of s cells) s rest (marks_inline s cells)
-    (cond-true _ _ _ (eq-eqb (length (marks_of s cells)) cells (marks-length s cells)) ∙ marks_join s cells m h)
-
 -- The parts of a text that is read, and the text made of parts.
 takes : (text : List ℕ) (q : Asked) → read_question text ≡ Ok q → Proper q × (text ≡ question_text q)
 takes text q e =
@@ -211,8 +190,7 @@ takes text q e =
     let n = s.0.0 in
     let g = then_ok (grid_line (n * n) s.0.1) _ q s.2 in
     let m = then_ok (map_line g.0.1) _ q g.2 in
-    let p = then_ok (marks_line pins (n * n) m.0.1) _ q m.2 in
-    let c = then_ok (marks_line clues (n * n) p.0.1) _ q p.2 in
+    let c = then_ok (clues_line (n * n) m.0.1) _ q m.2 in
     let u = then_ok (text_end c.0.1) _ q c.2 in
     let kw = key_whole kind (λ v. cond (bytes_eq v (codes "latin")) (Some v) None) text k.0.0 k.0.1 k.1 in
     let kv = same_whole kw.0 (codes "latin") k.0.0 kw.2 in
@@ -222,21 +200,24 @@ takes text q e =
     let gv = grid_whole (n * n) gw.0 g.0.0 gw.2 in
     let mw = key_whole map (λ v. cond (bytes_eq v (codes "-")) (Some v) None) g.0.1 m.0.0 m.0.1 m.1 in
     let mv = same_whole mw.0 (codes "-") m.0.0 mw.2 in
-    let cw = marks_line_whole clues (n * n) p.0.1 c.0 [] c.1 (end_whole c.0.1 u.0 u.1) in
-    let pw = marks_line_whole pins (n * n) m.0.1 p.0 _ p.1 cw.0 in
-    let t4 = mw.1 ∙ ap₂ (line_then map) mv.0 pw.0 in
+    let cw = key_whole clues (λ v. cond (eqb (length v) (n * n)) (read_marks v) None) m.0.1 c.0.0 c.0.1 c.1 in
+    let cp = passed (eqb (length cw.0) (n * n)) (read_marks cw.0) c.0.0 cw.2 in
+    let cn = eqb-true (length cw.0) (n * n) cp.0 in
+    let cv = marks_whole cw.0 c.0.0 cp.1 in
+    let t5 = cw.1 ∙ ap₂ (line_then clues) (cv.0 ∙ ap (marks_of c.0.0) cn) (end_whole c.0.1 u.0 u.1) in
+    let t4 = mw.1 ∙ ap₂ (line_then map) mv.0 t5 in
     let t3 = gw.1 ∙ ap₂ (line_then grid) gv.0 t4 in
     let t2 = sw.1 ∙ ap₂ (line_then size) (digit_whole sw.0 n sw.2) t3 in
     let t1 = kw.1 ∙ ap₂ (line_then kind) kv.1 t2 in
     subst (λ (x : Asked). Proper x × (text ≡ question_text x)) (ok_same _ q u.2)
-    ((sym kv.1 ∙ kv.0, sz.0, gv.1, gv.2, pw.1, cw.1), t1)
+    ((sym kv.1 ∙ kv.0, sz.0, gv.1, gv.2, subst (λ (x : ℕ). c.0.0 < 2 ^ x) cn cv.1), t1)
 
 joins : (q : Asked) → Proper q → read_question (question_text q) ≡ Ok q
 joins q p =
     let n = q.side in
     let b = size_bounds n (sym p.1) in
-    let r6 = line_then clues (marks_of q.clue_set (n * n)) [] in
-    let r5 = line_then pins (marks_of q.pin_set (n * n)) r6 in
+    let marks = marks_of q.clue_set (n * n) in
+    let r5 = line_then clues marks [] in
     let r4 = line_then map (codes "-") r5 in
     let r3 = line_then grid q.digits r4 in
     let r2 = line_then size ((n + 48) ∷ []) r3 in
@@ -248,16 +229,19 @@ joins q p =
     (cond-true (is_size n) (Ok (n, r3)) (Err (12, 2)) p.1) in
     let digits : cond (eqb (length q.digits) (n * n) && all_digits q.digits) (Some q.digits) None ≡ Some q.digits =
     cond-true _ _ _ (and_from _ _ (eq-eqb (length q.digits) (n * n) p.2) p.3) in
+    let clue : cond (eqb (length marks) (n * n)) (read_marks marks) None ≡ Some q.clue_set =
+    cond-true _ _ _ (eq-eqb (length marks) (n * n) (marks-length q.clue_set (n * n)))
+    ∙ marks_join q.clue_set (n * n) (omega (arith, b.2)) p.4 in
     let last : ℕ × List ℕ → Result Asked Fault =
-    λ c. then (text_end c.1) (λ _. Ok (record { puzzle = q.puzzle; side = q.side; digits = q.digits; pin_set = q.pin_set; clue_set = c.0 })) in
+    λ c. then (text_end c.1) (λ _. Ok (record { puzzle = q.puzzle; side = q.side; digits = q.digits; clue_set = c.0 })) in
     then_at (kind_line (question_text q)) _ (q.puzzle, r2) (Ok q)
     (key_join kind (λ v. cond (bytes_eq v (codes "latin")) (Some v) None) q.puzzle q.puzzle r2 (ap inline p.0) latin)
     (then_at (size_line r2) _ (n, r3) (Ok q) Size-ok
     (then_at (grid_line (n * n) r3) _ (q.digits, r4) (Ok q)
     (key_join grid (λ v. cond (eqb (length v) (n * n) && all_digits v) (Some v) None) q.digits q.digits r4 (digits_inline q.digits p.3) digits)
-    (then_at (marks_line pins (n * n) r5) _ (q.pin_set, r6) (Ok q) (marks_line_join pins (n * n) q.pin_set r6 (omega (arith, b.2)) p.4)
-    (then_at (marks_line clues (n * n) r6) last (q.clue_set, []) (Ok q) (marks_line_join clues (n * n) q.clue_set [] (omega (arith, b.2)) p.5)
-    refl))))
+    (then_at (clues_line (n * n) r5) last (q.clue_set, []) (Ok q)
+    (key_join clues (λ v. cond (eqb (length v) (n * n)) (read_marks v) None) marks q.clue_set [] (marks_inline q.clue_set (n * n)) clue)
+    refl)))
 
 pub takes_exactly : (text : List ℕ) → TakesExactly text (read_question text)
 takes_exactly text q = (takes text q, λ p e. ap read_question e ∙ joins q p)

@@ -5,7 +5,7 @@ use Rattle.std.specs.Str.{bytes_eq}
 use Rattle.std.proofs.lemmas.Slice.Eq.{HasBytesAt}
 use Rattle.std.proofs.lemmas.List.{take_rest}
 use Rattle.std.proofs.lemmas.Bool.{cond-true, cond-false, cases_Bool, eq-eqb, ne_eqb, eqb-true, and_left, and_right}
-use Rattle.text.specs.Lines.{longer, split_line, after, Key, KeyValue, under, key_value, numbered, line_from, next_line}
+use Rattle.text.specs.Lines.{longer, split_line, after, Key, KeyValue, under, next_line}
 
 -- No byte 10 stands before place i.
 abbrev pub Inside : List ℕ → ℕ → Type 0
@@ -67,12 +67,4 @@ unlike (k ∷ p) (b ∷ s) h =
 
 -- A line that is read as line n has the number n.
 pub counted : (n : ℕ) (text : List ℕ) {number : ℕ} {t : KeyValue} {rest : List ℕ} → Ok ((number, t), rest) ≡ next_line n text → number ≡ n
-counted n text {number} {t} {rest} e = first (split_line text) e
-  where
-    second : (o : Option KeyValue) (r : List ℕ) → Ok ((number, t), rest) ≡ numbered n r o → number ≡ n
-    second None r d = search rules
-    second (Some x) r d = search rules
-
-    first : (o : Option (List ℕ × List ℕ)) → Ok ((number, t), rest) ≡ line_from n o → number ≡ n
-    first None d = search rules
-    first (Some p) d = second (key_value p.0) p.1 d
+counted n text e = search rules

@@ -6,7 +6,7 @@ use Rattle.cells.specs.Refusals.{number_of}
 use Rattle.text.specs.declared.refused.Refused.{Refused}
 use Rattle.text.specs.declared.lines.Line.{Line}
 use Rattle.text.specs.declared.lines.Token.{Token}
-use Rattle.text.specs.declared.lines.Token.TheVariants.{Kind, Size, Grid, Map, Pins, Clues}
+use Rattle.text.specs.declared.lines.Token.TheVariants.{Kind, Size, Grid, Map, Clues}
 
 -- A refusal of a text is its number and the line's number, counted from 1.
 abbrev pub Fault : Type 0
@@ -35,7 +35,6 @@ pub data Key : Type 0 where
   size : Key
   grid : Key
   map : Key
-  pins : Key
   clues : Key
 
 abbrev pub key_text : Key → List ℕ
@@ -43,7 +42,6 @@ key_text kind = codes "kind="
 key_text size = codes "size="
 key_text grid = codes "grid="
 key_text map = codes "map="
-key_text pins = codes "pins="
 key_text clues = codes "clues="
 
 -- A line by its key, with its value.
@@ -59,14 +57,13 @@ abbrev pub as_key : Key → List ℕ → Option KeyValue → Option KeyValue
 as_key key line other = under key (after (key_text key) line) other
 
 abbrev pub key_value : List ℕ → Option KeyValue
-key_value line = as_key kind line (as_key size line (as_key grid line (as_key map line (as_key pins line (as_key clues line None)))))
+key_value line = as_key kind line (as_key size line (as_key grid line (as_key map line (as_key clues line None))))
 
 abbrev pub token_shown : Token → KeyValue
 token_shown (Kind v) = (kind, v.now)
 token_shown (Size v) = (size, v.now)
 token_shown (Grid v) = (grid, v.now)
 token_shown (Map v) = (map, v.now)
-token_shown (Pins v) = (pins, v.now)
 token_shown (Clues v) = (clues, v.now)
 
 abbrev pub pair_shown : Bor (List ℕ) × Bor (List ℕ) → List ℕ × List ℕ

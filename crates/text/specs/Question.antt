@@ -7,8 +7,8 @@ use Rattle.text.specs.declared.refused.Refused.{Refused}
 use Rattle.text.specs.declared.question.Kind.{Kind}
 use Rattle.text.specs.declared.question.Kind.TheVariants.{Latin}
 use Rattle.text.specs.declared.question.Question.{Question}
-use Rattle.text.specs.Lines.{Fault, Key, kind, size, grid, map, pins, clues, KeyValue, next_line, refused_shown}
-use Rattle.text.specs.Values.{one_digit, all_digits, cell_marks}
+use Rattle.text.specs.Lines.{Fault, Key, kind, size, grid, map, clues, KeyValue, next_line, refused_shown}
+use Rattle.text.specs.Values.{one_digit, all_digits, read_marks}
 
 -- Go on with what came, unless it is a refusal.
 abbrev pub then : {A B : Type 0} → Result A Fault → (A → Result B Fault) → Result B Fault
@@ -21,8 +21,7 @@ line_number kind = 1
 line_number size = 2
 line_number grid = 3
 line_number map = 4
-line_number pins = 5
-line_number clues = 6
+line_number clues = 5
 
 -- What line n gives, with the text after it; a line that gives nothing is refused by 11.
 abbrev pub or_form : {A : Type 0} → ℕ → List ℕ → Option A → Result (A × List ℕ) Fault
@@ -53,21 +52,20 @@ grid_line cells = key_line grid (λ v. cond (length v == cells && all_digits v) 
 abbrev pub map_line : List ℕ → Result (List ℕ × List ℕ) Fault
 map_line = key_line map (λ v. cond (bytes_eq v (codes "-")) (Some v) None)
 
--- Lines 5 and 6 are a mark for each cell.
-abbrev pub marks_line : Key → ℕ → List ℕ → Result (ℕ × List ℕ) Fault
-marks_line key cells = key_line key (cell_marks cells)
+-- Line 5 is a mark for each cell.
+abbrev pub clues_line : ℕ → List ℕ → Result (ℕ × List ℕ) Fault
+clues_line cells = key_line clues (λ v. cond (length v == cells) (read_marks v) None)
 
--- Nothing stands after line 6.
+-- Nothing stands after line 5.
 abbrev pub text_end : List ℕ → Result (Unit {0}) Fault
 text_end [] = Ok tt
-text_end (b ∷ bs) = Err (11, 7)
+text_end (b ∷ bs) = Err (11, 6)
 
--- What a question holds: the puzzle's name, the size, the grid's digits, the pins and the clues.
+-- What a question holds: the puzzle's name, the size, the grid's digits and the clues.
 pub record Asked : Type 0 where
   pub puzzle : List ℕ
   pub side : ℕ
   pub digits : List ℕ
-  pub pin_set : ℕ
   pub clue_set : ℕ
 
 abbrev pub read_question : List ℕ → Result Asked Fault
@@ -76,10 +74,9 @@ read_question text =
     then (size_line k.1) (λ s.
     then (grid_line (s.0 * s.0) s.1) (λ g.
     then (map_line g.1) (λ m.
-    then (marks_line pins (s.0 * s.0) m.1) (λ p.
-    then (marks_line clues (s.0 * s.0) p.1) (λ c.
+    then (clues_line (s.0 * s.0) m.1) (λ c.
     then (text_end c.1) (λ _.
-    Ok (record { puzzle = k.0; side = s.0; digits = g.0; pin_set = p.0; clue_set = c.0 }))))))))
+    Ok (record { puzzle = k.0; side = s.0; digits = g.0; clue_set = c.0 })))))))
 
 -- What the code answers, by these words.
 abbrev pub kind_name : Kind → List ℕ
@@ -98,5 +95,5 @@ end_shown (Ok u) = Ok u
 end_shown (Err e) = Err (refused_shown e)
 
 abbrev pub question_shown : Result Question Refused → Result Asked Fault
-question_shown (Ok q) = Ok (record { puzzle = kind_name q.kind; side = q.size; digits = q.grid.now; pin_set = q.pins; clue_set = q.clues })
+question_shown (Ok q) = Ok (record { puzzle = kind_name q.kind; side = q.size; digits = q.grid.now; clue_set = q.clues })
 question_shown (Err e) = Err (refused_shown e)

@@ -33,10 +33,6 @@ marked ms c = slice_index ms c == 35
 abbrev pub read_marks : List ℕ → Option ℕ
 read_marks ms = cond (nat_le (length ms) 64 && all_marks ms) (Some (set_of (marked ms) (length ms))) None
 
--- The set that a mark for each cell gives.
-abbrev pub cell_marks : ℕ → List ℕ → Option ℕ
-cell_marks cells ms = cond (length ms == cells) (read_marks ms) None
-
 -- The marks of the cells below n.
 abbrev pub marks_of : ℕ → ℕ → List ℕ
 marks_of s n = map (λ c. cond (has s c) 35 46) (range_with_len 0 n)

@@ -11,7 +11,6 @@ pub enum Token<'a> {
     Size(&'a [u8]),
     Grid(&'a [u8]),
     Map(&'a [u8]),
-    Pins(&'a [u8]),
     Clues(&'a [u8]),
 }
 
@@ -43,7 +42,6 @@ fn split_key(line: &[u8]) -> Option<Token<'_>>
         [b's', b'i', b'z', b'e', b'=', value @ ..] => Some(Token::Size(value)),
         [b'g', b'r', b'i', b'd', b'=', value @ ..] => Some(Token::Grid(value)),
         [b'm', b'a', b'p', b'=', value @ ..] => Some(Token::Map(value)),
-        [b'p', b'i', b'n', b's', b'=', value @ ..] => Some(Token::Pins(value)),
         [b'c', b'l', b'u', b'e', b's', b'=', value @ ..] => Some(Token::Clues(value)),
         _ => None,
     }

@@ -1,11 +1,10 @@
 ghost use Rattle.std.specs.Prelude.{◌≡◌, codes};
 ghost use Rattle.text.specs.Form.{TakesExactly};
-ghost use Rattle.text.specs.Lines.{pins, clues};
-ghost use Rattle.text.specs.Question.{kind_line, size_line, grid_line, map_line, marks_line, text_end, read_question, kind_name, value_shown, rest_shown, end_shown, question_shown};
+ghost use Rattle.text.specs.Question.{kind_line, size_line, grid_line, map_line, clues_line, text_end, read_question, kind_name, value_shown, rest_shown, end_shown, question_shown};
 
 use crate::lines::{Token, next_line};
 use crate::refused::Refused;
-use crate::values::{all_digits, read_cells, read_digit};
+use crate::values::{all_digits, read_digit, read_marks};
 use cells::{CellSet, Refusal};
 
 /// The puzzles that a text can name.
@@ -14,13 +13,12 @@ pub enum Kind {
     Latin,
 }
 
-/// A grid, as the digits of its line, the pins that every reader gets, and the clues to be tried on it.
+/// A grid, as the digits of its line, and the clues to be tried on it.
 #[derive(Clone, Copy)]
 pub struct Question<'a> {
     pub kind: Kind,
     pub size: usize,
     pub grid: &'a [u8],
-    pub pins: CellSet,
     pub clues: CellSet,
 }
 
@@ -32,7 +30,7 @@ pub fn read_question(text: &[u8]) -> Result<Question<'_>, Refused>
     read_lines(text)
 }
 
-/// The six lines in their order, and nothing after them.
+/// The five lines in their order, and nothing after them.
 fn read_lines(text: &[u8]) -> Result<Question<'_>, Refused>
     ensures { question_shown result ≡ read_question text.now }
 {
@@ -40,14 +38,12 @@ fn read_lines(text: &[u8]) -> Result<Question<'_>, Refused>
     let (size, rest) = read_size(rest)?;
     let (grid, rest) = read_grid(rest, size * size)?;
     let rest = read_map(rest)?;
-    let (pins, rest) = read_pins(rest, size * size)?;
     let (clues, rest) = read_clues(rest, size * size)?;
     read_end(rest)?;
     Ok(Question {
         kind,
         size,
         grid,
-        pins,
         clues,
     })
 }
@@ -113,41 +109,30 @@ fn read_map(text: &[u8]) -> Result<&[u8], Refused>
     }
 }
 
-/// Line 5, `pins=`: a mark for each cell.
-fn read_pins(text: &[u8], cells: usize) -> Result<(CellSet, &[u8]), Refused>
-    ensures { value_shown (λ s. s) result ≡ marks_line pins cells text.now }
+/// Line 5, `clues=`: a mark for each cell.
+fn read_clues(text: &[u8], cells: usize) -> Result<(CellSet, &[u8]), Refused>
+    ensures { value_shown (λ s. s) result ≡ clues_line cells text.now }
 {
     let (line, rest) = next_line(text, 5)?;
-    let Token::Pins(value) = line.token else {
-        return Err(Refused::form(line.number));
-    };
-    match read_cells(value, cells) {
-        Some(pins) => Ok((pins, rest)),
-        None => Err(Refused::form(line.number)),
-    }
-}
-
-/// Line 6, `clues=`: a mark for each cell.
-fn read_clues(text: &[u8], cells: usize) -> Result<(CellSet, &[u8]), Refused>
-    ensures { value_shown (λ s. s) result ≡ marks_line clues cells text.now }
-{
-    let (line, rest) = next_line(text, 6)?;
     let Token::Clues(value) = line.token else {
         return Err(Refused::form(line.number));
     };
-    match read_cells(value, cells) {
+    if value.len() != cells {
+        return Err(Refused::form(line.number));
+    }
+    match read_marks(value) {
         Some(clues) => Ok((clues, rest)),
         None => Err(Refused::form(line.number)),
     }
 }
 
-/// After line 6 nothing may stand.
+/// After line 5 nothing may stand.
 fn read_end(text: &[u8]) -> Result<(), Refused>
     ensures { end_shown result ≡ text_end text.now }
 {
     if text.is_empty() {
         Ok(())
     } else {
-        Err(Refused::form(7))
+        Err(Refused::form(6))
     }
 }

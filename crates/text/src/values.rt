@@ -1,5 +1,5 @@
 ghost use Rattle.std.specs.Prelude.{◌≡◌};
-ghost use Rattle.text.specs.Values.{one_digit, all_digits, read_marks, cell_marks};
+ghost use Rattle.text.specs.Values.{one_digit, all_digits, read_marks};
 
 use cells::{CellSet, with};
 
@@ -26,7 +26,7 @@ pub(crate) fn all_digits(value: &[u8]) -> bool
 }
 
 /// The set of the cells whose mark is '#'; none where a mark is neither '#' nor '.', or where there are more than 64.
-fn read_marks(value: &[u8]) -> Option<CellSet>
+pub(crate) fn read_marks(value: &[u8]) -> Option<CellSet>
     ensures { result ≡ read_marks value.now }
 {
     if value.len() > 64 {
@@ -41,15 +41,4 @@ fn read_marks(value: &[u8]) -> Option<CellSet>
         }
     }
     Some(set)
-}
-
-/// The set that the marks give, where there is one mark for each cell; none otherwise.
-pub(crate) fn read_cells(value: &[u8], cells: usize) -> Option<CellSet>
-    ensures { result ≡ cell_marks cells value.now }
-{
-    if value.len() == cells {
-        read_marks(value)
-    } else {
-        None
-    }
 }

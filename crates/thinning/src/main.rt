@@ -3,8 +3,7 @@
 #![tactic(auto)]
 
 use cells::{all_below, without};
-use finder::can_spare;
-use latin::Latin;
+use latin::{Found, Latin};
 use std::io;
 
 const GRID: [u8; 36] = [
@@ -13,13 +12,16 @@ const GRID: [u8; 36] = [
 ];
 
 fn main(rt: HostRuntime) -> io::Result<()> {
-    let Ok(mut puzzle) = Latin::new(6, &GRID) else {
+    let Ok(puzzle) = Latin::new(6, &GRID) else {
         return println!(rt; "the grid is not taken");
     };
+    let mut strip = [0; 64];
+    let mut pad = [0; 64];
     let mut clues = all_below(36);
     for cell in 0..36 {
-        if can_spare(&mut puzzle, clues, cell) {
-            clues = without(clues, cell);
+        let fewer = without(clues, cell);
+        if puzzle.find(fewer, &mut strip, &mut pad) == Found::NoRival {
+            clues = fewer;
         }
     }
     let count = clues.count_ones();

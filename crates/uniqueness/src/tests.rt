@@ -11,11 +11,9 @@ fn says(text: &[u8], expected: &[u8]) -> bool {
 
 #[test]
 fn answers(rt: HostRuntime) {
-    let text = b"kind=latin\nsize=2\ngrid=1221\nmap=-\npins=....\nclues=....\n";
+    let text = b"kind=latin\nsize=2\ngrid=1221\nmap=-\nclues=....\n";
     assert!(rt; says(text, b"rival=2112\ndiffers=####\n"));
-    let text = b"kind=latin\nsize=2\ngrid=1221\nmap=-\npins=....\nclues=..#.\n";
-    assert!(rt; says(text, b"rival=none\n"));
-    let text = b"kind=latin\nsize=2\ngrid=1221\nmap=-\npins=#...\nclues=....\n";
+    let text = b"kind=latin\nsize=2\ngrid=1221\nmap=-\nclues=..#.\n";
     assert!(rt; says(text, b"rival=none\n"));
 }
 
@@ -25,12 +23,12 @@ fn refusals(rt: HostRuntime) {
     assert!(rt; says(b"kind=latin\nsize=2\ngrid=1221\n", b"refused=11\nline=4\n"));
     assert!(rt; says(b"kind=latin\nsize=7\n", b"refused=12\nline=2\n"));
     assert!(rt; says(b"kind=latin\nsize=7", b"refused=11\nline=2\n"));
-    let text = b"kind=latin\nsize=2\ngrid=1212\nmap=-\npins=....\nclues=....\n";
+    let text = b"kind=latin\nsize=2\ngrid=1212\nmap=-\nclues=....\n";
     assert!(rt; says(text, b"refused=15\nline=3\n"));
-    let text = b"kind=latin\nsize=2\ngrid=1212\nmap=-\npins=....\nclues=...-\n";
+    let text = b"kind=latin\nsize=2\ngrid=1212\nmap=-\nclues=...-\n";
+    assert!(rt; says(text, b"refused=11\nline=5\n"));
+    let text = b"kind=latin\nsize=2\ngrid=1221\nmap=-\nclues=....\n\n";
     assert!(rt; says(text, b"refused=11\nline=6\n"));
-    let text = b"kind=latin\nsize=2\ngrid=1221\nmap=-\npins=....\nclues=....\n\n";
-    assert!(rt; says(text, b"refused=11\nline=7\n"));
 }
 
 #[test]

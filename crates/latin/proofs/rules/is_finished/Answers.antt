@@ -5,7 +5,7 @@ use Rattle.cells.specs.Lines.{is_value}
 use Rattle.cells.proofs.Bounded.{fails}
 use Rattle.cells.proofs.LineLaws.{count_none, marked_more, marked_again, marked_apart}
 use Rattle.latin.specs.Rules.{line_of, finished}
-use Rattle.latin.specs.RuleLaws.{finished_from, finished-length, finished_value, finished_once}
+use Rattle.latin.proofs.RuleLaws.{finished_from, finished-length, finished_value, finished_once}
 use Rattle.latin.proofs.rules.is_finished.Goals as goal
 use Rattle.latin.proofs.rules.is_finished.Goals.{then-value-lt1-via-then-value-lt1, then-value-lt1-via-else-value-lt1+then-value-size, then-value-lt1-via-else-value-lt1+else-value-size+then-seen-value}
 

@@ -1,5 +1,5 @@
 use Rattle.std.proofs.Common.{codes, sym, ap, ◌∙◌, rules}
-use Rattle.text.specs.Lines.{key_value, kind, size, grid, map, pins, clues}
+use Rattle.text.specs.Lines.{key_value, kind, size, grid, map, clues}
 use Rattle.text.proofs.LineLaws.{known, other}
 use Rattle.text.proofs.lines.split_key.Goals as goal
 
@@ -16,9 +16,6 @@ returns-in-103 c = sym (ap key_value (known (codes "grid=") c.args.line.now (sea
 pub returns-in-109 : goal.returns-in-109
 returns-in-109 c = sym (ap key_value (known (codes "map=") c.args.line.now (search rules) (search rules)))
 
-pub returns-in-112 : goal.returns-in-112
-returns-in-112 c = sym (ap key_value (known (codes "pins=") c.args.line.now (search rules) (search rules)))
-
 pub returns-in-99 : goal.returns-in-99
 returns-in-99 c = sym (ap key_value (known (codes "clues=") c.args.line.now (search rules) (search rules)))
 
@@ -30,5 +27,4 @@ returns-in_default c =
     ∙ other size (codes "size=") line _ (λ l r. search rules)
     ∙ other grid (codes "grid=") line _ (λ l r. search rules)
     ∙ other map (codes "map=") line _ (λ l r. search rules)
-    ∙ other pins (codes "pins=") line _ (λ l r. search rules)
     ∙ other clues (codes "clues=") line _ (λ l r. search rules))

@@ -1,5 +1,5 @@
 use Rattle.std.proofs.Common.{sym, refl, arith}
-use Rattle.latin.specs.RuleLaws.{size_bounds}
+use Rattle.latin.proofs.RuleLaws.{size_bounds}
 use Rattle.uniqueness.proofs.replies.reply_to_text.Goals as goal
 
 pub reply_to-requires : goal.reply_to-requires

@@ -1,13 +1,12 @@
-use Rattle.std.proofs.Common.{◌≡◌, ℕ, ◌-◌, ◌<◌, get_or}
-use Rattle.finder.specs.Searching.{NoneWith}
-use Rattle.latin.specs.Puzzle.{cells_of, meaning_of}
-use Rattle.latin.specs.Search.{value_in_turn}
+use Rattle.std.proofs.Common.{◌≡◌, ℕ, ◌+◌, ◌-◌, ◌<◌, set}
+use Rattle.latin.specs.Puzzle.{cell_count}
+use Rattle.latin.specs.Search.{DeadEnd}
 use Rattle.latin.proofs.puzzle.Latin.+search.Given as goal
 
 abbrev pub decreases-search : goal.decreases-search
-decreases-search l = cells_of l.self.now - l.cell
+decreases-search l = cell_count l.self.now - l.cell
 
-abbrev pub invariant-loop-turn : goal.invariant-loop-turn
-invariant-loop-turn l =
+abbrev pub invariant-loop-value : goal.invariant-loop-value
+invariant-loop-value l =
     (l.pad ≡ l.initial.pad) × (l.strip ≡ l.initial.strip)
-    × ((t : ℕ) → t < l.turn → NoneWith (meaning_of l.self) l.clues l.initial.pad l.cell l.limit (value_in_turn (get_or l.self.values l.cell 0) t))
+    × ((v : ℕ) → v < l.value → 0 < v → DeadEnd l.self l.clues (set l.initial.pad l.cell v) (l.cell + 1))

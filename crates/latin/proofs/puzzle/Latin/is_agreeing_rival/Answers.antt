@@ -15,4 +15,4 @@ pub returns : goal.returns
 returns c =
     let apart = not_from_Decides _ (slice_eq-Decides Decides-eqb _ _ _ c.eq.ensures) c.if-eq.false in
     let value = c.agree.ensures.value ∙ ap (λ g. agree c.args.clues g c.args.grid.now) c.given-2.ensures in
-    (λ e. ((sym c.if-not-is_finished.ensures, λ d. apart (d ∙ sym c.given.ensures)), sym value ∙ e), λ t. value ∙ t.1)
+    (λ e. ((sym c.if-not-judge.ensures, λ d. apart (d ∙ sym c.given.ensures)), sym value ∙ e), λ t. value ∙ t.1)

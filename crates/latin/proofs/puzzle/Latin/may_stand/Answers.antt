@@ -1,5 +1,5 @@
 use Rattle.std.proofs.Common.{arith}
-use Rattle.latin.specs.RuleLaws.{row_below}
+use Rattle.latin.proofs.RuleLaws.{row_below}
 use Rattle.latin.proofs.puzzle.Latin.may_stand.Goals as goal
 
 pub is_unused-requires : goal.is_unused-requires

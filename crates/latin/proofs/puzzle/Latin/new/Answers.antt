@@ -3,7 +3,7 @@ use Rattle.std.proofs.lemmas.Bool.{cond-true, eq-eqb}
 use Rattle.cells.proofs.GridLaws.{strip_front}
 use Rattle.latin.specs.Rules.{is_size, finished}
 use Rattle.latin.specs.Puzzle.{puzzle_of}
-use Rattle.latin.specs.RuleLaws.{size_bounds}
+use Rattle.latin.proofs.RuleLaws.{size_bounds}
 use Rattle.latin.proofs.puzzle.Latin.new.Goals as goal
 
 made_ok : (n : ℕ) (g : List ℕ) → true ≡ is_size n → length g ≡ n * n → true ≡ finished n g → puzzle_of n g ≡ Ok (n, g)
@@ -19,7 +19,6 @@ invariant_of-result c =
     record {
       positive = b.0;
       small = b.1;
-      some = b.3;
       square = b.2;
       long = c.put_in_strip.array_long;
       solved = ap (finished n) g ∙ sym c.if-not-is_finished.ensures;

@@ -1,8 +1,6 @@
 -- What a finished Latin grid is, line by line.
-use Rattle.std.specs.Prelude.{◌≡◌, ℕ, zero, suc, ◌+◌, ◌-◌, ◌*◌, ◌/◌, ◌%◌, ◌<◌, ◌≤◌, true, List, length, nat_le, nat_lt, slice_index}
-use Rattle.std.proofs.Common.{sym, ap, ◌∙◌, ⊎_elim, not-suc-le-zero, mod-lt, arith}
-use Rattle.std.proofs.lemmas.Bool.{cases_lt, and_parts, leb-true, cond-true, cond-false, lt-ltb, le-ltb}
-use Rattle.std.proofs.lemmas.List.{get_or_past}
+use Rattle.std.proofs.Common.{◌≡◌, ℕ, zero, suc, ◌+◌, ◌-◌, ◌*◌, ◌/◌, ◌%◌, ◌<◌, ◌≤◌, true, ltb, leb, List, length, get_or, sym, ap, ◌∙◌, not-suc-le-zero, mod-lt, arith}
+use Rattle.std.proofs.lemmas.Bool.{and_parts, leb-true, cond-true, cond-false, lt-ltb, le-ltb}
 use Rattle.std.proofs.lemmas.Nat.{mul-le, div-add-mod', div_below}
 use Rattle.cells.specs.Lines.{count}
 use Rattle.cells.proofs.LineLaws.{Apart, keeps_from, keeps-length, keeps_value, keeps_once}
@@ -20,12 +18,12 @@ column_below n c l = mod-lt c (size_pos n c l)
 
 -- Each cell has a place in its row and one in its column.
 pub in_row : (n c : ℕ) → c < n * n → line_of n (c / n) (c % n) ≡ c
-in_row n c l = cond-true (nat_lt (c / n) n) _ _ (lt-ltb (c / n) n (row_below n c l)) ∙ div-add-mod' c n
+in_row n c l = cond-true (ltb (c / n) n) _ _ (lt-ltb (c / n) n (row_below n c l)) ∙ div-add-mod' c n
 
 pub in_column : (n c : ℕ) → c < n * n → line_of n (n + c % n) (c / n) ≡ c
 in_column n c l =
     let e : n + c % n - n ≡ c % n = omega arith in
-    cond-false (nat_lt (n + c % n) n) _ _ (le-ltb (n + c % n) n (omega arith)) ∙ ap (λ x. c / n * n + x) e ∙ div-add-mod' c n
+    cond-false (ltb (n + c % n) n) _ _ (le-ltb (n + c % n) n (omega arith)) ∙ ap (λ x. c / n * n + x) e ∙ div-add-mod' c n
 
 -- A grid whose rows and columns were all gone through is finished.
 pub finished_from : (n : ℕ) (g : List ℕ) → length g ≡ n * n → ((l : ℕ) → l < 2 * n → Apart n (line_of n l) g) → finished n g ≡ true
@@ -37,23 +35,15 @@ finished_from n g e a =
 pub finished-length : (n : ℕ) (g : List ℕ) → finished n g ≡ true → length g ≡ n * n
 finished-length n g f = keeps-length n (2 * n) (line_of n) g f
 
-pub finished_value : (n : ℕ) (g : List ℕ) → finished n g ≡ true → (c : ℕ) → c < n * n → (1 ≤ slice_index g c) × (slice_index g c ≤ n)
+pub finished_value : (n : ℕ) (g : List ℕ) → finished n g ≡ true → (c : ℕ) → c < n * n → (1 ≤ get_or g c 0) × (get_or g c 0 ≤ n)
 finished_value n g f = keeps_value n (2 * n) (line_of n) g f
-
-pub finished_most : (n : ℕ) (g : List ℕ) → finished n g ≡ true → (c : ℕ) → slice_index g c ≤ n
-finished_most n g f c =
-    ⊎_elim
-    (λ (l : c < n * n). (finished_value n g f c l).1)
-    (λ (l : n * n ≤ c). omega (arith, get_or_past g c 0 (omega (arith, finished-length n g f))))
-    (cases_lt c (n * n))
 
 pub finished_once : (n : ℕ) (g : List ℕ) → finished n g ≡ true → (l : ℕ) → l < 2 * n → (v : ℕ) → 0 < v → v ≤ n → count (line_of n l) g v n ≡ 1
 finished_once n g f = keeps_once n (2 * n) (line_of n) g f
 
 -- What is known of a size.
-pub size_bounds : (n : ℕ) → true ≡ is_size n → (1 ≤ n) × (n ≤ 6) × (n * n ≤ 36) × (1 ≤ n * n)
+pub size_bounds : (n : ℕ) → true ≡ is_size n → (1 ≤ n) × (n ≤ 6) × (n * n ≤ 36)
 size_bounds n h =
-    let p = and_parts (nat_le 1 n) (nat_le n 6) (sym h) in
-    let a = leb-true 1 n p.0 in
+    let p = and_parts (leb 1 n) (leb n 6) (sym h) in
     let b = leb-true n 6 p.1 in
-    (a, b, mul-le n n 6 6 b b, mul-le 1 1 n n a a)
+    (leb-true 1 n p.0, b, mul-le n n 6 6 b b)

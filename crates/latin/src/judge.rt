@@ -1,5 +1,5 @@
 ghost use Rattle.std.specs.Prelude.{◌≡◌};
-ghost use Rattle.latin.specs.Puzzle.{cells_of, given, puzzle_of, puzzle_shown};
+ghost use Rattle.latin.specs.Puzzle.{cell_count, given, solves, puzzle_of, puzzle_shown};
 
 use crate::puzzle::Latin;
 use crate::rules::{is_finished, is_size};
@@ -25,16 +25,23 @@ impl Latin {
     }
 
     /// How many cells the puzzle's grids have.
-    pub(crate) fn cell_count(&self) -> usize
-        ensures { result ≡ cells_of self.now }
+    pub fn count(&self) -> usize
+        ensures { result ≡ cell_count self.now }
     {
         self.size * self.size
     }
 
     /// The given grid.
-    pub(crate) fn given(&self) -> &[u8]
+    pub fn given(&self) -> &[u8]
         ensures { result.now ≡ given self.now }
     {
-        &self.values[0..self.cell_count()]
+        &self.values[0..self.count()]
+    }
+
+    /// Whether the bytes are a finished grid of the puzzle's size.
+    pub fn judge(&self, grid: &[u8]) -> bool
+        ensures { result ≡ solves self.now grid.now }
+    {
+        is_finished(self.size, grid)
     }
 }
