@@ -77,7 +77,9 @@ def respell(text):
 def main():
     code = [p for kind in ("src/**/*.rt", "specs/**/*.antt", "proofs/**/*.antt") for p in glob.glob("crates/*/" + kind, recursive=True)]
     changed = 0
-    for path in code + ["README.md"] + glob.glob("docs/*.md"):
+    # docs/PORT.md tells the older names.
+    pages = [p for p in glob.glob("docs/*.md") if p != "docs/PORT.md"]
+    for path in code + ["README.md"] + pages:
         text = open(path, encoding="utf8").read()
         if path.endswith(".md"):
             new = re.sub(r"`[^`\n]+`", lambda m: respell(m.group(0)), text)

@@ -15,7 +15,7 @@ SameCells = (s t : ℕ) → s < 2 ^ 64 → t < 2 ^ 64 → ((c : ℕ) → c < 64 
 abbrev pub SubsetNumber : Type 0
 SubsetNumber = (s t : ℕ) → s < 2 ^ 64 → t < 2 ^ 64 → Within s t → s ≤ t
 
--- With one cell more, one more is counted: `ones` is the number of cells in a set.
+-- With one cell more, one more is counted: `count_ones` is the number of cells in a set.
 abbrev pub OneMore : Type 0
 OneMore = (s c : ℕ) → s < 2 ^ 64 → c < 64 → has s c ≡ false → count_ones (with s c) ≡ count_ones s + 1
 
