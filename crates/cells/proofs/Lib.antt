@@ -1,4 +1,6 @@
 pub mod Bounded
 pub mod SetLaws
+pub mod Bits
 pub mod GridLaws
 pub mod LineLaws
+pub mod Folds

@@ -1,9 +1,10 @@
 -- The laws of sets of cells.
-use Rattle.std.proofs.Common.{◌≡◌, ℕ, zero, suc, ◌+◌, ◌-◌, ◌*◌, ◌/◌, ◌%◌, ◌^◌, ◌<◌, ◌≤◌, min, max, Bool, true, false, cond, not, ◌&&◌, ◌||◌, eqb, ltb, Decides, sym, refl, ap, ◌∙◌, ap₂, ⊎_elim, add-mul, pow-suc, add-one, one-add, arith, pow_mono}
+use Rattle.std.proofs.Common.{◌≡◌, ℕ, zero, suc, ◌+◌, ◌-◌, ◌*◌, ◌/◌, ◌%◌, ◌^◌, ◌<◌, ◌≤◌, min, max, Bool, true, false, cond, not, ◌&&◌, ◌||◌, eqb, ltb, List, ◌∷◌, Decides, sym, refl, ap, ◌∙◌, ap₂, ⊎_elim, add-mul, pow-suc, add-one, one-add, arith, pow_mono}
 use mathlib.Core.Bool.{and-true, and-false, or-false}
 use native.Mathlib.Nat.{div-eq_of_lt, two-pow-succ}
 use lib.Bits.{bit_and, bit_or, and_step, and_shr, and_le_l, and_block, and_mask, and_zero_r, or_step, or_shr, or_lt, or_disjoint}
 use lib.Count.{ones, ones_step, ones_cat}
+use Rattle.std.specs.List.{fold, filter, range_with_len}
 use Rattle.std.proofs.lemmas.Nat.{pow_pos, pow_below, shr-shr, div-add-mod', mod_below}
 use Rattle.std.proofs.lemmas.Bool.{eqb-false, eq-eqb, ne_eqb, lt-ltb, le-ltb, cases_order, cases_lt, cases_Bool}
 use Rattle.std.proofs.lemmas.Bool.Decides.{nat_tests}
@@ -311,3 +312,17 @@ ones_rise p j (suc k) h l =
     omega arith)
     (λ (m : suc k ≤ j). let e : j ≡ suc k = omega arith in omega (arith, ap (λ i. ones (set_of p i)) e))
     (cases_lt j (suc k))
+
+-- Adding the numbers from k on that pass the test, one after the other, to the set of those below k.
+pub fold-with : (p : ℕ → Bool) (k n : ℕ) → k + n ≤ 64 → fold with (set_of p k) (filter p (range_with_len k n)) ≡ set_of p (k + n)
+fold-with p k zero l = let z : k + 0 ≡ k = omega arith in ap (set_of p) (sym z)
+fold-with p k (suc n) l =
+    let next : k + 1 + n ≡ k + suc n = omega arith in
+    let rest : List ℕ = filter p (range_with_len (k + 1) n) in
+    let on = fold-with p (k + 1) n (omega arith) ∙ ap (set_of p) next in
+    ⊎_elim
+    (λ (t : p k ≡ true).
+    ap (λ b. fold with (set_of p k) (cond b (k ∷ rest) rest)) t ∙ ap (λ s. fold with s rest) (set_of_hit p k (omega arith) t) ∙ on)
+    (λ (f : p k ≡ false).
+    ap (λ b. fold with (set_of p k) (cond b (k ∷ rest) rest)) f ∙ ap (λ s. fold with s rest) (set_of_miss p k f) ∙ on)
+    (cases_Bool (p k))

@@ -1,6 +1,6 @@
-ghost use Rattle.std.specs.Prelude.{◌≡◌, ◌≤◌, not, length, slice_index};
+ghost use Rattle.std.specs.Prelude.{◌≡◌, ◌≤◌, not, slice_index};
 ghost use Rattle.cells.specs.Sets.{meets};
-ghost use Rattle.cells.specs.Grids.{agree, differ_below, differ, with_front, in_strip};
+ghost use Rattle.cells.specs.Grids.{agree, differ_below, differ, in_strip};
 
 use crate::sets::{CellSet, has, with};
 
@@ -8,7 +8,7 @@ use crate::sets::{CellSet, has, with};
 pub fn value_at(grid: &[u8], cell: usize) -> u8
     ensures { result ≡ slice_index grid.now cell }
 {
-    if cell < grid.len() { grid[cell] } else { 0 }
+    grid.get(cell).copied().unwrap_or(0)
 }
 
 /// Whether the two grids have the same value in each cell of the set that both have.
@@ -27,16 +27,12 @@ pub fn agree(set: CellSet, one: &[u8], other: &[u8]) -> bool
 
 /// The cells below `count` where the grids differ.
 fn difference_below(count: usize, one: &[u8], other: &[u8]) -> CellSet
-    requires { (count ≤ 64) × ((count ≤ length one.now) × (count ≤ length other.now)) }
+    requires { count ≤ 64 }
     ensures { result ≡ differ_below count one.now other.now }
 {
-    let mut set = 0;
-    for cell in 0..count {
-        if one[cell] != other[cell] {
-            set = with(set, cell);
-        }
-    }
-    set
+    (0..count)
+        .filter(|&cell| value_at(one, cell) != value_at(other, cell))
+        .fold(0, with)
 }
 
 /// The difference set: the cells below 64 that both grids have and where they differ.
@@ -46,17 +42,10 @@ pub fn difference(one: &[u8], other: &[u8]) -> CellSet
     difference_below(one.len().min(other.len()).min(64), one, other)
 }
 
-/// Copies the first `count` bytes.
-fn copy_front(count: usize, from: &[u8], to: &mut [u8; 64])
-    requires { (count ≤ 64) × (count ≤ length from.now) }
-    ensures { to.new ≡ with_front count from.now to.old }
-{
-    to[0..count].copy_from_slice(&from[0..count]);
-}
-
 /// Puts the grid's values in the first bytes of the strip, at most 64 of them; the rest of the strip stays as it is.
 pub fn put_in_strip(grid: &[u8], strip: &mut [u8; 64])
     ensures { strip.new ≡ in_strip grid.now strip.old }
 {
-    copy_front(grid.len().min(64), grid, strip);
+    let count = grid.len().min(64);
+    strip[..count].copy_from_slice(&grid[..count]);
 }

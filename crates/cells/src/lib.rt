@@ -1,7 +1,6 @@
 //! Sets of cells, where two grids agree and differ, and the refusals that every part shares.
 #![tactic(auto)]
 
-mod bits;
 mod grids;
 mod laws;
 mod refusal;

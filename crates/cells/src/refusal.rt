@@ -1,15 +1,15 @@
 ghost use Rattle.std.specs.Prelude.{◌≡◌};
 ghost use Rattle.cells.specs.Refusals.{number_of};
 
-/// Why a text or a grid is not taken.
+/// Why a text or a grid is not taken. Users know each refusal by its number.
 #[derive(Clone, Copy, Debug, PartialEq, Eq)]
 pub enum Refusal {
     /// A line is not in its form, is missing or is one too many; a grid has too few or too many values.
-    Form,
+    Form = 11,
     /// The size is none of the puzzle's sizes.
-    Size,
+    Size = 12,
     /// The grid breaks the puzzle's rules.
-    Unfinished,
+    Unfinished = 15,
 }
 
 impl Refusal {
@@ -17,10 +17,6 @@ impl Refusal {
     pub fn number(&self) -> u8
         ensures { result ≡ number_of self.now }
     {
-        match self {
-            Refusal::Form => 11,
-            Refusal::Size => 12,
-            Refusal::Unfinished => 15,
-        }
+        *self as u8
     }
 }

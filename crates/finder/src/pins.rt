@@ -18,14 +18,6 @@ pub struct Pins<F> {
     pins: CellSet,
 }
 
-/// The pins that are cells of the finder's grids; they leave the same solutions.
-fn pins_on_grid<F: Finder>(below: &F, pins: CellSet) -> CellSet
-    ensures pins { result ≡ pins_of pins (F.meaning below.now) }
-    ensures means { pinned result (F.meaning below.now) ≡ pinned pins (F.meaning below.now) }
-{
-    cells::intersection(pins, cells::all_below(below.count()))
-}
-
 /// One layer with the pins of two, which leaves the same solutions.
 fn one_layer<F: Finder>(below: F, outer: CellSet, inner: CellSet) -> Pins<F>
     ensures below { result.below ≡ below }
@@ -36,23 +28,6 @@ fn one_layer<F: Finder>(below: F, outer: CellSet, inner: CellSet) -> Pins<F>
     Pins { below, pins }
 }
 
-/// Asks the finder below for a rival that agrees on the clues and on the pins.
-fn find_under<F: Finder>(
-    below: &mut F,
-    pins: CellSet,
-    clues: CellSet,
-    strip: &mut [u8; 64],
-    pad: &mut [u8; 64],
-) -> Found
-    ensures answer { Answers (pinned pins (F.meaning below.old)) clues (named (cell_count (F.meaning below.old)) result strip.new) }
-    ensures strip { strip.new ≡ strip_after (named (cell_count (F.meaning below.old)) result strip.new) strip.old }
-    ensures asked { F.asked below.old (union clues pins) (named (cell_count (F.meaning below.old)) result strip.new) below.new }
-    ensures pad { pad.new ≡ pad.old }
-    ensures kept { pinned pins (F.meaning below.new) ≡ pinned pins (F.meaning below.old) }
-{
-    below.find(cells::union(clues, pins), strip, pad)
-}
-
 impl<F: Finder> Pins<F> {
     /// The finder under the pins. A pin that is no cell of the grid is no pin.
     pub fn new(below: F, pins: CellSet) -> Pins<F>
@@ -60,7 +35,7 @@ impl<F: Finder> Pins<F> {
         ensures pins { result.pins ≡ pins_of pins (F.meaning below) }
         ensures means { pinned result.pins (F.meaning result.below) ≡ pinned pins (F.meaning below) }
     {
-        let pins = pins_on_grid(&below, pins);
+        let pins = cells::intersection(pins, cells::all_below(below.count()));
         Pins { below, pins }
     }
 }
@@ -97,7 +72,9 @@ impl<F: Finder> Finder for Pins<F> {
         self.below.judge(grid) && agrees(&self.below, self.pins, grid)
     }
 
+    /// Asks the finder below for a rival that agrees on the clues and on the pins.
+    #[tactic(auto, using(crate::proofs::PinLaws::answers_pinned))]
     fn find(&mut self, clues: CellSet, strip: &mut [u8; 64], pad: &mut [u8; 64]) -> Found {
-        find_under(&mut self.below, self.pins, clues, strip, pad)
+        self.below.find(cells::union(clues, self.pins), strip, pad)
     }
 }

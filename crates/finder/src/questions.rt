@@ -16,22 +16,9 @@ pub fn admits_only<F: Finder>(finder: &mut F, clues: CellSet) -> bool
     ensures asked { (answer : Option (List ℕ)) × F.asked finder.old clues answer finder.new × (result ≡ not (is_some answer)) }
     ensures kept { F.meaning finder.new ≡ F.meaning finder.old }
 {
-    no_rival_agrees(finder, clues)
-}
-
-/// Whether the finder, when asked, answers none.
-fn no_rival_agrees<F: Finder>(finder: &mut F, clues: CellSet) -> bool
-    ensures answer { Decides result (AdmitsOnly (F.meaning finder.old) clues) }
-    ensures meets { AdmitsIffMeets (F.meaning finder.old) }
-    ensures asked { (answer : Option (List ℕ)) × F.asked finder.old clues answer finder.new × (result ≡ not (is_some answer)) }
-    ensures kept { F.meaning finder.new ≡ F.meaning finder.old }
-{
     let mut strip = [0; 64];
     let mut pad = [0; 64];
-    match finder.find(clues, &mut strip, &mut pad) {
-        Found::Rival => false,
-        Found::NoRival => true,
-    }
+    finder.find(clues, &mut strip, &mut pad) == Found::NoRival
 }
 
 /// Whether the cell is a clue that can be spared: the clues without it still admit only the given grid. A cell that is no clue asks
@@ -61,8 +48,8 @@ fn copy_values<F: Finder>(finder: &F, count: usize, strip: &mut [u8; 64])
     requires { count ≤ cell_count (F.meaning finder.now) }
     ensures { strip.new ≡ with_front count (F.meaning finder.now).given strip.old }
 {
-    for cell in 0..count {
-        strip[cell] = finder.value(cell);
+    for (cell, place) in strip[..count].iter_mut().enumerate() {
+        *place = finder.value(cell);
     }
 }
 
