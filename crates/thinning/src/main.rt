@@ -17,8 +17,8 @@ fn main(rt: HostRuntime) -> io::Result<()> {
     };
     let mut strip = [0; 64];
     let mut pad = [0; 64];
-    let mut clues = all_below(36);
-    for cell in 0..36 {
+    let mut clues = all_below(GRID.len());
+    for cell in 0..GRID.len() {
         let fewer = without(clues, cell);
         if puzzle.find(fewer, &mut strip, &mut pad) == Found::NoRival {
             clues = fewer;

@@ -1,12 +1,7 @@
 -- The lines of a reply.
-use Rattle.std.specs.Prelude.{ℕ, ◌+◌, ◌-◌, List, ◌++◌, map, length, take, codes, decimal}
+use Rattle.std.specs.Prelude.{ℕ, ◌+◌, ◌-◌, List, ◌++◌, map, length, codes, decimal}
 use Rattle.cells.specs.Grids.{differ}
 use Rattle.text.specs.Values.{marks_of}
-use Rattle.uniqueness.specs.declared.reply.Reply.{Reply}
-
--- The bytes of a reply.
-abbrev pub text_of : Reply → List ℕ
-text_of r = take r.filled r.bytes
 
 -- The values that decimal digits write, one for each cell, and the digits of values.
 abbrev pub values_of : List ℕ → List ℕ

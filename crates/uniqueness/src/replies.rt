@@ -1,56 +1,50 @@
-ghost use Rattle.std.specs.Prelude.{◌≡◌, ◌*◌, ◌≤◌, true, length};
+ghost use Rattle.std.specs.Prelude.{MatchResult};
+ghost use Rattle.cells.specs.Refusals.{number_of};
 ghost use Rattle.latin.specs.Puzzle.{given, solves};
-ghost use Rattle.latin.specs.Rules.{is_size};
 ghost use Rattle.text.specs.Question.{read_question};
-ghost use Rattle.uniqueness.specs.Replies.{Answers, RepliesTo, Replies};
-ghost use Rattle.uniqueness.specs.Write.{text_of, values_of, no_rival_line};
+ghost use Rattle.uniqueness.specs.Replies.{Answers, Replies};
+ghost use Rattle.uniqueness.specs.Write.{refused_lines};
 
 use crate::reply::Reply;
-use crate::write::{refused_lines, rival_lines, values_of};
+use crate::write::{no_rival_line, refused_lines, rival_lines, values_of};
 use cells::CellSet;
 use latin::{Found, Latin};
-use text::read_question;
+use text::{Refused, read_question};
+
+/// The line of a text where the grid stands.
+const GRID_LINE: usize = 3;
 
 /// The reply to the text of a question: the lines that name a rival, that say there is none, or that refuse the text. Which of
 /// several rivals is named is left free.
 pub fn reply_to_text(text: &[u8]) -> Reply
-    ensures { Replies (read_question text.now) (text_of result) }
+    ensures { Replies (read_question text.now) result }
 {
-    match read_question(text) {
-        Ok(question) => reply_to(question.size, question.grid, question.clues),
-        Err(refused) => refused_lines(refused.refusal.number(), refused.line),
-    }
+    answer_to(text).unwrap_or_else(refused_lines)
 }
 
-/// The reply to a question, whose grid has the right number of digits.
-fn reply_to(size: usize, digits: &[u8], clues: CellSet) -> Reply
-    requires { (is_size size ≡ true) × ((length digits.now ≡ size * size) × (length digits.now ≤ 36)) }
-    ensures { RepliesTo size (values_of digits.now) clues (text_of result) }
+/// The reply to the question that the text asks, or why the text is refused.
+fn answer_to(text: &[u8]) -> Result<Reply, Refused>
+    ensures { MatchResult result (λ reply. Replies (read_question text.now) reply)
+        (λ refused. Replies (read_question text.now) (refused_lines (number_of refused.refusal) refused.line)) }
 {
-    let values = values_of(digits);
-    match Latin::new(size, &values[0..digits.len()]) {
-        Ok(puzzle) => answer(&puzzle, clues),
-        Err(refusal) => refused_lines(refusal.number(), 3),
-    }
+    let question = read_question(text)?;
+    let values = values_of(question.grid);
+    let puzzle = Latin::new(question.size, &values).map_err(|refusal| Refused {
+        refusal,
+        line: GRID_LINE,
+    })?;
+    Ok(answer(&puzzle, question.clues))
 }
 
 /// The lines that name a rival of the puzzle's grid that agrees with it on the clues, or the line that says that there is none.
 fn answer(puzzle: &Latin, clues: CellSet) -> Reply
-    ensures { Answers (solves puzzle.now) (given puzzle.now) clues (text_of result) }
+    ensures { Answers (solves puzzle.now) (given puzzle.now) clues result }
 {
+    let given = puzzle.given();
     let mut strip = [0; 64];
     let mut pad = [0; 64];
     match puzzle.find(clues, &mut strip, &mut pad) {
-        Found::Rival => rival_lines(puzzle.given(), &strip[0..puzzle.count()]),
+        Found::Rival => rival_lines(given, &strip[..given.len()]),
         Found::NoRival => no_rival_line(),
     }
-}
-
-/// The line that says that there is no rival.
-fn no_rival_line() -> Reply
-    ensures { text_of result ≡ no_rival_line }
-{
-    let mut reply = Reply::new();
-    reply.push_text(b"rival=none\n");
-    reply
 }

@@ -1,6 +1,6 @@
-use Rattle.std.proofs.Common.{◌≡◌, length, take}
+use Rattle.std.proofs.Common.{◌≡◌, take}
 use Rattle.uniqueness.specs.Write.{values_of}
 use Rattle.uniqueness.proofs.write.values_of.Given as goal
 
-abbrev pub invariant-loop-cell : goal.invariant-loop-cell
-invariant-loop-cell l = (take l.cell l.values ≡ values_of (take l.cell l.digits)) × (length l.values ≡ 64)
+abbrev pub invariant-loop-digit : goal.invariant-loop-digit
+invariant-loop-digit l = l.values.items ≡ values_of (take l.digit-index l.digits)

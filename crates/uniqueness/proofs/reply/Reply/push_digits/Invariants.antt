@@ -1,8 +1,6 @@
-use Rattle.std.proofs.Common.{◌≡◌, ◌+◌, ◌++◌, take}
-use Rattle.uniqueness.specs.Write.{text_of, digits_of}
+use Rattle.std.proofs.Common.{◌≡◌, ◌++◌, take}
+use Rattle.uniqueness.specs.Write.{digits_of}
 use Rattle.uniqueness.proofs.reply.Reply.push_digits.Given as goal
 
 abbrev pub invariant-loop-value : goal.invariant-loop-value
-invariant-loop-value l =
-    (text_of l.self ≡ text_of l.initial.self ++ digits_of (take l.value-index l.values))
-    × (l.self.filled ≡ l.initial.self.filled + l.value-index)
+invariant-loop-value l = l.self-inside.text.items ≡ l.fn.self ++ digits_of (take l.value-index l.values)
