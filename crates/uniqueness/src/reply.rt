@@ -10,9 +10,6 @@ use std::marker::Model;
 /// The most bytes that a reply has: those of a rival of 36 cells with its marks.
 const MOST_BYTES: usize = 88;
 
-/// The most decimal digits that a number of 64 bits has.
-const MOST_DIGITS: usize = 20;
-
 /// The text of a reply: a contract sees it as the list of its bytes.
 #[derive(Drop)]
 pub struct Reply {
@@ -78,9 +75,8 @@ impl Reply {
 
     /// The number in decimal digits, without leading zeros.
     pub(crate) fn push_number(&mut self, number: usize)
-        requires { length self.old + MOST_DIGITS ≤ MOST_BYTES }
-        ensures text { self.new ≡ self.old ++ decimal number }
-        ensures short { length self.new ≤ length self.old + MOST_DIGITS }
+        requires { length self.old + length (decimal number) ≤ MOST_BYTES }
+        ensures { self.new ≡ self.old ++ decimal number }
     {
         let mut digits = Buffer::new();
         self.push_text(digits.format(number).as_bytes());

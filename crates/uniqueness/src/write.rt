@@ -6,8 +6,8 @@ use crate::reply::Reply;
 use arrayvec::ArrayVec;
 use text::Refused;
 
-/// The most cells that a grid has.
-const MOST_CELLS: usize = 36;
+/// The most cells that a grid may have.
+const MOST_CELLS: usize = 64;
 
 /// The values that the digits write.
 pub(crate) fn values_of(digits: &[u8]) -> ArrayVec<u8, MOST_CELLS>
@@ -24,7 +24,7 @@ pub(crate) fn values_of(digits: &[u8]) -> ArrayVec<u8, MOST_CELLS>
 /// The lines that name a rival and mark the cells where it differs from the given grid.
 #[tactic(auto, using(crate::proofs::WriteLaws::marks))]
 pub(crate) fn rival_lines(given: &[u8], rival: &[u8]) -> Reply
-    requires few { length rival.now ≤ MOST_CELLS }
+    requires few { length rival.now ≤ 36 }
     requires digits { All (λ value. value < 10) rival.now }
     ensures { result ≡ rival_lines given.now rival.now }
 {
@@ -47,6 +47,7 @@ pub(crate) fn no_rival_line() -> Reply
 }
 
 /// The lines that refuse a text.
+#[tactic(auto, using(crate::proofs::WriteLaws::few_digits))]
 pub(crate) fn refused_lines(refused: Refused) -> Reply
     ensures { result ≡ refused_lines (number_of refused.refusal) refused.line }
 {
