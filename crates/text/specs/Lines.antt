@@ -1,5 +1,5 @@
 -- A text is lines, each ended by one byte 10; a line is a key and a value.
-use Rattle.std.specs.Prelude.{ℕ, cond, List, [], ◌∷◌, Some, None, Ok, Err, codes, Option, Result, ◌==◌}
+use Rattle.std.specs.Prelude.{ℕ, ◌+◌, cond, List, [], ◌∷◌, Some, None, Ok, Err, codes, Option, Result, ◌==◌, position, take, drop}
 use Rattle.std.specs.Borrow.{Bor}
 use Rattle.std.specs.Option.{option_map}
 use Rattle.cells.specs.Refusals.{number_of}
@@ -15,13 +15,9 @@ Fault = ℕ × ℕ
 abbrev pub refused_shown : Refused → Fault
 refused_shown r = (number_of r.refusal, r.line)
 
-abbrev pub longer : ℕ → List ℕ × List ℕ → List ℕ × List ℕ
-longer b p = (b ∷ p.0, p.1)
-
 -- The first line of a text, and what stands after the byte 10 that ends it.
 abbrev pub split_line : List ℕ → Option (List ℕ × List ℕ)
-split_line [] = None
-split_line (b ∷ bs) = cond (b == 10) (Some ([], bs)) (option_map (longer b) (split_line bs))
+split_line text = option_map (λ at. (take at text, drop (at + 1) text)) (position (λ b. b == 10) text)
 
 -- What stands after the key, of a line that begins with it.
 abbrev pub after : List ℕ → List ℕ → Option (List ℕ)
@@ -73,9 +69,17 @@ pair_shown p = (p.0.now, p.1.now)
 abbrev pub OneLine : Type 0
 OneLine = (ℕ × KeyValue) × List ℕ
 
+-- What the code answers, by these words: the value by what it means, and the refusal by its numbers.
+abbrev pub shown : {A B : Type 0} → (A → B) → Result A Refused → Result B Fault
+shown meaning (Ok a) = Ok (meaning a)
+shown meaning (Err e) = Err (refused_shown e)
+
+-- The same of a value with the text after it.
+abbrev pub value_shown : {A B : Type 0} → (A → B) → Result (A × Bor (List ℕ)) Refused → Result (B × List ℕ) Fault
+value_shown meaning = shown (λ p. (meaning p.0, p.1.now))
+
 abbrev pub line_shown : Result (Line × Bor (List ℕ)) Refused → Result OneLine Fault
-line_shown (Ok p) = Ok ((p.0.number, token_shown p.0.token), p.1.now)
-line_shown (Err e) = Err (refused_shown e)
+line_shown = value_shown (λ l. (l.number, token_shown l.token))
 
 abbrev pub numbered : ℕ → List ℕ → Option KeyValue → Result OneLine Fault
 numbered n rest None = Err (11, n)
@@ -86,5 +90,5 @@ line_from n None = Err (11, n)
 line_from n (Some p) = numbered n p.1 (key_value p.0)
 
 -- The first line of a text, as line n: refused by 11 if it is missing, is not ended or has no key.
-abbrev pub next_line : ℕ → List ℕ → Result OneLine Fault
+unfoldable pub next_line : ℕ → List ℕ → Result OneLine Fault
 next_line n text = line_from n (split_line text)

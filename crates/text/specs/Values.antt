@@ -1,6 +1,6 @@
 -- What the values of the lines must be, and what they mean.
-use Rattle.std.specs.Prelude.{ℕ, ◌-◌, Bool, true, cond, ◌&&◌, ◌||◌, List, [], ◌∷◌, map, length, Some, None, Option, ◌==◌, nat_le, slice_index}
-use Rattle.std.specs.List.{range_with_len}
+use Rattle.std.specs.Prelude.{ℕ, ◌-◌, Bool, cond, ◌&&◌, ◌||◌, List, [], ◌∷◌, map, length, Some, None, Option, ◌==◌, nat_le, slice_index}
+use Rattle.std.specs.List.{range_with_len, list_all}
 use Rattle.cells.specs.Sets.{has, set_of}
 
 -- The bytes 48 to 57 are the decimal digits.
@@ -8,8 +8,7 @@ abbrev pub is_digit : ℕ → Bool
 is_digit b = nat_le 48 b && nat_le b 57
 
 abbrev pub all_digits : List ℕ → Bool
-all_digits [] = true
-all_digits (b ∷ bs) = is_digit b && all_digits bs
+all_digits = list_all is_digit
 
 -- The number that one digit writes.
 abbrev pub one_digit : List ℕ → Option ℕ
@@ -22,8 +21,7 @@ abbrev pub is_mark : ℕ → Bool
 is_mark b = b == 35 || b == 46
 
 abbrev pub all_marks : List ℕ → Bool
-all_marks [] = true
-all_marks (b ∷ bs) = is_mark b && all_marks bs
+all_marks = list_all is_mark
 
 -- Cell c has the mark '#'.
 abbrev pub marked : List ℕ → ℕ → Bool

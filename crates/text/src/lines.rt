@@ -25,12 +25,8 @@ pub struct Line<'a> {
 fn split_line(text: &[u8]) -> Option<(&[u8], &[u8])>
     ensures { option_map pair_shown result ≡ split_line text.now }
 {
-    for (at, byte) in text.iter().enumerate() {
-        if *byte == b'\n' {
-            return Some((&text[0..at], &text[at + 1..]));
-        }
-    }
-    None
+    let at = text.iter().position(|byte| *byte == b'\n')?;
+    Some((&text[..at], &text[at + 1..]))
 }
 
 /// A line taken apart: its key first, the rest as the value.
@@ -49,14 +45,11 @@ fn split_key(line: &[u8]) -> Option<Token<'_>>
 
 /// The first line of `text`, which is line `number` of the whole, and the text after it.
 /// Refused if no line is there, if no byte 10 ends it, or if it has no key.
+#[tactic(auto, unfolding(crate::specs::Lines::next_line))]
 pub fn next_line(text: &[u8], number: usize) -> Result<(Line<'_>, &[u8]), Refused>
     ensures { line_shown result ≡ next_line number text.now }
 {
-    let Some((line, rest)) = split_line(text) else {
-        return Err(Refused::form(number));
-    };
-    match split_key(line) {
-        Some(token) => Ok((Line { number, token }, rest)),
-        None => Err(Refused::form(number)),
-    }
+    let (line, rest) = split_line(text).ok_or(Refused::form(number))?;
+    let token = split_key(line).ok_or(Refused::form(number))?;
+    Ok((Line { number, token }, rest))
 }

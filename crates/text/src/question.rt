@@ -1,6 +1,9 @@
-ghost use Rattle.std.specs.Prelude.{◌≡◌, codes};
+ghost use Rattle.std.specs.Prelude.{◌≡◌};
 ghost use Rattle.text.specs.Form.{TakesExactly};
-ghost use Rattle.text.specs.Question.{kind_line, size_line, grid_line, map_line, clues_line, text_end, read_question, kind_name, value_shown, rest_shown, end_shown, question_shown};
+ghost use Rattle.text.specs.Question.{size_line, text_end, read_question, value_under, kind_value, grid_value, map_value, clues_value, kind_name, question_shown, ReadsLine};
+ghost use Rattle.text.specs.Lines.{kind, size, grid, map, clues, token_shown, shown, value_shown};
+ghost use Rattle.text.specs.Values.{one_digit};
+ghost use Rattle.std.specs.Option.{option_map};
 
 use crate::lines::{Token, next_line};
 use crate::refused::Refused;
@@ -34,11 +37,12 @@ pub fn read_question(text: &[u8]) -> Result<Question<'_>, Refused>
 fn read_lines(text: &[u8]) -> Result<Question<'_>, Refused>
     ensures { question_shown result ≡ read_question text.now }
 {
-    let (kind, rest) = read_kind(text)?;
+    let (kind, rest) = read_line(text, 1, kind_of)?;
     let (size, rest) = read_size(rest)?;
-    let (grid, rest) = read_grid(rest, size * size)?;
-    let rest = read_map(rest)?;
-    let (clues, rest) = read_clues(rest, size * size)?;
+    let cells = size * size;
+    let (grid, rest) = read_line(rest, 3, |token| grid_of(token, cells))?;
+    let (_, rest) = read_line(rest, 4, map_of)?;
+    let (clues, rest) = read_line(rest, 5, |token| clues_of(token, cells))?;
     read_end(rest)?;
     Ok(Question {
         kind,
@@ -48,87 +52,89 @@ fn read_lines(text: &[u8]) -> Result<Question<'_>, Refused>
     })
 }
 
-/// Line 1, `kind=`: the puzzle's name.
-fn read_kind(text: &[u8]) -> Result<(Kind, &[u8]), Refused>
-    ensures { value_shown kind_name result ≡ kind_line text.now }
+/// The first line of the text, which is line `number` of the whole, by what `read` makes of it, and the text after it.
+/// Refused if no such line is there, or if `read` makes nothing of it.
+fn read_line<'a, T, F: FnOnce(Token<'a>) -> Option<T>>(
+    text: &'a [u8],
+    number: usize,
+    read: F,
+) -> Result<(T, &'a [u8]), Refused>
+    requires { F.IsAlwaysCallable read }
+    ensures { ReadsLine (F.post read) number text.now result }
 {
-    let (line, rest) = next_line(text, 1)?;
-    let Token::Kind(value) = line.token else {
-        return Err(Refused::form(line.number));
-    };
-    match value {
-        b"latin" => Ok((Kind::Latin, rest)),
-        _ => Err(Refused::form(line.number)),
-    }
+    let (line, rest) = next_line(text, number)?;
+    let value = read(line.token).ok_or(Refused::form(number))?;
+    Ok((value, rest))
 }
 
-/// Line 2, `size=`: one digit, which is one of the puzzle's sizes.
+/// Line 2, whose size must be one of the puzzle's.
 fn read_size(text: &[u8]) -> Result<(usize, &[u8]), Refused>
     ensures { value_shown (λ n. n) result ≡ size_line text.now }
 {
-    let (line, rest) = next_line(text, 2)?;
-    let Token::Size(value) = line.token else {
-        return Err(Refused::form(line.number));
-    };
-    match read_digit(value) {
-        Some(size) if latin::is_size(size) => Ok((size, rest)),
-        Some(_) => Err(Refused {
-            refusal: Refusal::Size,
-            line: line.number,
-        }),
-        None => Err(Refused::form(line.number)),
-    }
-}
-
-/// Line 3, `grid=`: a digit for each cell.
-fn read_grid(text: &[u8], cells: usize) -> Result<(&[u8], &[u8]), Refused>
-    ensures { value_shown (λ x. x.now) result ≡ grid_line cells text.now }
-{
-    let (line, rest) = next_line(text, 3)?;
-    let Token::Grid(value) = line.token else {
-        return Err(Refused::form(line.number));
-    };
-    if value.len() == cells && all_digits(value) {
-        Ok((value, rest))
+    let (size, rest) = read_line(text, 2, size_of)?;
+    if latin::is_size(size) {
+        Ok((size, rest))
     } else {
-        Err(Refused::form(line.number))
+        Err(Refused {
+            refusal: Refusal::Size,
+            line: 2,
+        })
     }
 }
 
-/// Line 4, `map=`: a Latin grid has none.
-fn read_map(text: &[u8]) -> Result<&[u8], Refused>
-    ensures { rest_shown (codes "-") result ≡ map_line text.now }
+/// `kind=`: the puzzle's name.
+fn kind_of(token: Token<'_>) -> Option<Kind>
+    ensures { option_map kind_name result ≡ value_under kind kind_value (token_shown token.entry) }
 {
-    let (line, rest) = next_line(text, 4)?;
-    let Token::Map(value) = line.token else {
-        return Err(Refused::form(line.number));
-    };
-    match value {
-        b"-" => Ok(rest),
-        _ => Err(Refused::form(line.number)),
+    match token {
+        Token::Kind(b"latin") => Some(Kind::Latin),
+        _ => None,
     }
 }
 
-/// Line 5, `clues=`: a mark for each cell.
-fn read_clues(text: &[u8], cells: usize) -> Result<(CellSet, &[u8]), Refused>
-    ensures { value_shown (λ s. s) result ≡ clues_line cells text.now }
+/// `size=`: one digit.
+fn size_of(token: Token<'_>) -> Option<usize>
+    ensures { result ≡ value_under size one_digit (token_shown token.entry) }
 {
-    let (line, rest) = next_line(text, 5)?;
-    let Token::Clues(value) = line.token else {
-        return Err(Refused::form(line.number));
-    };
-    if value.len() != cells {
-        return Err(Refused::form(line.number));
+    match token {
+        Token::Size(value) => read_digit(value),
+        _ => None,
     }
-    match read_marks(value) {
-        Some(clues) => Ok((clues, rest)),
-        None => Err(Refused::form(line.number)),
+}
+
+/// `grid=`: a digit for each cell.
+fn grid_of(token: Token<'_>, cells: usize) -> Option<&[u8]>
+    ensures { option_map (λ x. x.now) result ≡ value_under grid (grid_value cells) (token_shown token.entry) }
+{
+    match token {
+        Token::Grid(value) if value.len() == cells && all_digits(value) => Some(value),
+        _ => None,
+    }
+}
+
+/// `map=`: a Latin grid has none.
+fn map_of(token: Token<'_>) -> Option<&[u8]>
+    ensures { option_map (λ x. x.now) result ≡ value_under map map_value (token_shown token.entry) }
+{
+    match token {
+        Token::Map(value @ b"-") => Some(value),
+        _ => None,
+    }
+}
+
+/// `clues=`: a mark for each cell.
+fn clues_of(token: Token<'_>, cells: usize) -> Option<CellSet>
+    ensures { result ≡ value_under clues (clues_value cells) (token_shown token.entry) }
+{
+    match token {
+        Token::Clues(value) if value.len() == cells => read_marks(value),
+        _ => None,
     }
 }
 
 /// After line 5 nothing may stand.
 fn read_end(text: &[u8]) -> Result<(), Refused>
-    ensures { end_shown result ≡ text_end text.now }
+    ensures { shown (λ u. u) result ≡ text_end text.now }
 {
     if text.is_empty() {
         Ok(())

@@ -8,7 +8,7 @@ pub(crate) fn read_digit(value: &[u8]) -> Option<usize>
     ensures { result ≡ one_digit value.now }
 {
     match value {
-        [digit] if digit.is_ascii_digit() => Some((*digit - b'0') as usize),
+        [digit] if digit.is_ascii_digit() => Some(usize::from(*digit - b'0')),
         _ => None,
     }
 }
@@ -17,12 +17,7 @@ pub(crate) fn read_digit(value: &[u8]) -> Option<usize>
 pub(crate) fn all_digits(value: &[u8]) -> bool
     ensures { result ≡ all_digits value.now }
 {
-    for byte in value {
-        if !byte.is_ascii_digit() {
-            return false;
-        }
-    }
-    true
+    value.iter().all(|byte| byte.is_ascii_digit())
 }
 
 /// The set of the cells whose mark is '#'; none where a mark is neither '#' nor '.', or where there are more than 64.

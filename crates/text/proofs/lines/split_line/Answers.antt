@@ -1,14 +1,16 @@
-use Rattle.std.proofs.Common.{◌≡◌, ◌-◌, sym, add-one, arith, rules}
+use Rattle.std.proofs.Common.{◌≡◌, ◌==◌, position, rules, tests}
+use Rattle.std.proofs.lemmas.Iterator.{YieldsList-from_slice}
+use Rattle.std.proofs.lemmas.Iterator.Search.{position_from_yields_List}
 use Rattle.std.proofs.lemmas.List.{take_rest}
-use Rattle.text.proofs.LineLaws.{split_at, split_none}
+use Rattle.text.proofs.lines.split_line.Goals.{After-position}
 use Rattle.text.proofs.lines.split_line.Goals as goal
 
-pub returns-then-byte-eq10 : goal.returns-then-byte-eq10
-returns-then-byte-eq10 c =
-    let at = c.loop-at.at in
-    let split = split_at c.args.text.now at c.loop-at-test.true c.loop-at.invariant (omega arith) in
-    let front : at - 0 ≡ at = omega arith in
-    search (rules, split, take_rest, add-one, front)
+-- The place of the first byte 10.
+found : (c : After-position) → c.position.result ≡ position (λ b. b == 10) c.args.text.now
+found c = position_from_yields_List (λ b. b == 10) _ _ _ c.position.ensures.ran (YieldsList-from_slice _ c.iter.ensures.rest) (λ x b q k. search (rules, tests))
+
+pub returns-in_err-at : goal.returns-in_err-at
+returns-in_err-at c = let at = found (goal.at.returns-in_err-at c).After-position in search (rules, at)
 
 pub returns : goal.returns
-returns c = sym (split_none c.args.text.now (λ k h. c.loop-at.invariant k (omega arith)))
+returns c = let at = found (goal.at.returns c).After-position in search (rules, at, take_rest)
