@@ -12,20 +12,23 @@ use Rattle.finder.specs.Rivals.{Rival, AgreeingRival, NoneNearer, distance}
 use Rattle.finder.specs.Searching.{SameBelow, Sought, DeadEnd, NoneWith, mismatch, FindsFrom, Accepts, FindsAny, NoneBelow, HoldsNearest}
 
 -- After a trial the pad is as it was.
+pub put_back : (pad : List ℕ) (cell value : ℕ) → set (set pad cell value) cell (get_or pad cell 0) ≡ pad
+put_back pad cell value = set-set pad cell value (get_or pad cell 0) ∙ set-get_or pad cell 0
+
 pub restored : (l m p : List ℕ) (i v : ℕ) → m ≡ set l i v → p ≡ set m i (get_or l i 0) → p ≡ l
-restored l m p i v e f = f ∙ ap (λ x. set x i (get_or l i 0)) e ∙ set-set l i v (get_or l i 0) ∙ set-get_or l i 0
+restored l m p i v e f = f ∙ ap (λ x. set x i (get_or l i 0)) e ∙ put_back l i v
 
 -- What a grid holds in the cell and before it, if it begins with the pad and the value.
-at_cell : (g pad : List ℕ) (cell value : ℕ) → cell < length pad → SameBelow (cell + 1) g (set pad cell value) → get_or g cell 0 ≡ value
+pub at_cell : (g pad : List ℕ) (cell value : ℕ) → cell < length pad → SameBelow (cell + 1) g (set pad cell value) → get_or g cell 0 ≡ value
 at_cell g pad cell value l s = s cell (omega arith) ∙ get_or-set_same pad cell value 0 l
 
-before_cell : (g pad : List ℕ) (cell value : ℕ) → SameBelow (cell + 1) g (set pad cell value) → SameBelow cell g pad
+pub before_cell : (g pad : List ℕ) (cell value : ℕ) → SameBelow (cell + 1) g (set pad cell value) → SameBelow cell g pad
 before_cell g pad cell value s i l =
     let ne : i ≡ cell → ⊥ = omega arith in
     s i (omega arith) ∙ get_or-set_other pad cell i value 0 ne
 
 -- A grid that is the pad below a cell is the pad with the grid's own value in the cell, one cell further.
-same_more : (g pad : List ℕ) (cell value : ℕ) → cell < length pad → SameBelow cell g pad → get_or g cell 0 ≡ value
+pub same_more : (g pad : List ℕ) (cell value : ℕ) → cell < length pad → SameBelow cell g pad → get_or g cell 0 ≡ value
     → SameBelow (cell + 1) g (set pad cell value)
 same_more g pad cell value l s v i h =
     ⊎_elim

@@ -59,5 +59,5 @@ pub(crate) fn agrees<F: Finder>(finder: &F, set: CellSet, grid: &[u8]) -> bool
 {
     let mut given = [0; 64];
     put_given(finder, &mut given);
-    cells::agree(set, &given[0..finder.count()], grid)
+    cells::agree(set, &given[..finder.count()], grid)
 }

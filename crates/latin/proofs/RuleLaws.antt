@@ -16,14 +16,28 @@ row_below n c l = div_below c n n (size_pos n c l) l
 pub column_below : (n c : ℕ) → c < n * n → c % n < n
 column_below n c l = mod-lt c (size_pos n c l)
 
--- Each cell has a place in its row and one in its column.
+-- The cells of a cell's row and of its column.
+pub row_at : (n c k : ℕ) → c < n * n → line_of n (c / n) k ≡ c / n * n + k
+row_at n c k l = cond-true (ltb (c / n) n) _ _ (lt-ltb (c / n) n (row_below n c l))
+
+pub column_at : (n c k : ℕ) → line_of n (n + c % n) k ≡ k * n + c % n
+column_at n c k =
+    let e : n + c % n - n ≡ c % n = omega arith in
+    cond-false (ltb (n + c % n) n) _ _ (le-ltb (n + c % n) n (omega arith)) ∙ ap (λ x. k * n + x) e
+
+-- Each cell has a place in its row and one in its column, and the places before it are of cells before it.
 pub in_row : (n c : ℕ) → c < n * n → line_of n (c / n) (c % n) ≡ c
-in_row n c l = cond-true (ltb (c / n) n) _ _ (lt-ltb (c / n) n (row_below n c l)) ∙ div-add-mod' c n
+in_row n c l = row_at n c (c % n) l ∙ div-add-mod' c n
 
 pub in_column : (n c : ℕ) → c < n * n → line_of n (n + c % n) (c / n) ≡ c
-in_column n c l =
-    let e : n + c % n - n ≡ c % n = omega arith in
-    cond-false (ltb (n + c % n) n) _ _ (le-ltb (n + c % n) n (omega arith)) ∙ ap (λ x. c / n * n + x) e ∙ div-add-mod' c n
+in_column n c l = column_at n c (c / n) ∙ div-add-mod' c n
+
+pub row_before : (n c k : ℕ) → c < n * n → k < c % n → line_of n (c / n) k < c
+row_before n c k l h = omega (arith, row_at n c k l, div-add-mod' c n)
+
+pub column_before : (n c k : ℕ) → c < n * n → k < c / n → line_of n (n + c % n) k < c
+column_before n c k l h =
+    omega (arith, column_at n c k, div-add-mod' c n, size_pos n c l, mul-le (k + 1) n (c / n) n (omega arith) (omega arith))
 
 -- A grid whose rows and columns were all gone through is finished.
 pub finished_from : (n : ℕ) (g : List ℕ) → length g ≡ n * n → ((l : ℕ) → l < 2 * n → Apart n (line_of n l) g) → finished n g ≡ true

@@ -1,43 +1,31 @@
 -- Why the search finds a rival where there is one.
-use Rattle.std.proofs.Common.{◌≡◌, ℕ, ◌+◌, ◌*◌, ◌/◌, ◌%◌, ◌<◌, ◌≤◌, true, List, length, get_or, take, set, sym, ap, ◌∙◌, subst, ⊎_elim, arith}
-use Rattle.std.proofs.lemmas.List.{set-set, set-get_or, get_or-set_same, get_or-set_other, get_or-take, ext_get_or, length-take-le}
-use Rattle.std.proofs.lemmas.Bool.{cases_eq}
+use Rattle.std.proofs.Common.{◌≡◌, ℕ, ◌+◌, ◌*◌, ◌/◌, ◌%◌, ◌<◌, ◌≤◌, true, List, length, get_or, take, set, sym, refl, ap, ◌∙◌, subst, arith, below_more}
+use Rattle.std.proofs.lemmas.List.{get_or-take, ext_get_or, length-take-le}
 use Rattle.cells.proofs.LineLaws.{twice}
 use Rattle.cells.proofs.GridLaws.{agree_decides}
+use Rattle.finder.specs.Searching.{SameBelow}
+use Rattle.finder.proofs.SearchLaws.{at_cell, before_cell, same_more}
 use Rattle.latin.specs.declared.puzzle.Latin.{Latin}
 use Rattle.latin.specs.Rules.{line_of, finished}
 use Rattle.latin.specs.Puzzle.{cell_count, given}
-use Rattle.latin.specs.Search.{IsAgreeingRival, SameBelow, DeadEnd, Unused, MayStand}
-use Rattle.latin.proofs.RuleLaws.{row_below, column_below, in_row, in_column, finished-length, finished_value, finished_once}
+use Rattle.latin.specs.Search.{IsAgreeingRival, DeadEnd, Unused, MayStand}
+use Rattle.latin.proofs.RuleLaws.{row_below, column_below, in_row, in_column, row_before, column_before, finished-length, finished_value, finished_once}
 
--- After a trial the pad is as it was.
-pub restored : (l m p : List ℕ) (i v : ℕ) → m ≡ set l i v → p ≡ set m i (get_or l i 0) → p ≡ l
-restored l m p i v e f = f ∙ ap (λ x. set x i (get_or l i 0)) e ∙ set-set l i v (get_or l i 0) ∙ set-get_or l i 0
-
--- What a grid holds in the cell and before it, if it begins with the pad and the value.
-at_cell : (g pad : List ℕ) (cell value : ℕ) → cell < length pad → SameBelow (cell + 1) g (set pad cell value) → get_or g cell 0 ≡ value
-at_cell g pad cell value l s = s cell (omega arith) ∙ get_or-set_same pad cell value 0 l
-
-before_cell : (g pad : List ℕ) (cell value i : ℕ) → i < cell → SameBelow (cell + 1) g (set pad cell value) → get_or g i 0 ≡ get_or pad i 0
-before_cell g pad cell value i l s =
-    let ne : i ≡ cell → ⊥ = omega arith in
-    s i (omega arith) ∙ get_or-set_other pad cell i value 0 ne
-
--- In a finished grid that goes on from the pad with the value, the value is unused in each line of the cell.
+-- In a finished grid that goes on from the pad with the value, the value is unused in each line of the cell before it.
 unused_in : (n : ℕ) (g pad : List ℕ) (cell value l at : ℕ) → finished n g ≡ true → cell < n * n → cell < length pad → l < 2 * n → at < n
-    → line_of n l at ≡ cell → SameBelow (cell + 1) g (set pad cell value) → Unused (line_of n l) n pad cell value
-unused_in n g pad cell value l at f c m b a e s k j h q =
+    → line_of n l at ≡ cell → ((k : ℕ) → k < at → line_of n l k < cell) → SameBelow (cell + 1) g (set pad cell value)
+    → Unused (line_of n l) at pad value
+unused_in n g pad cell value l at f c m b a e before s k j q =
     let here = at_cell g pad cell value m s in
     let r = finished_value n g f cell c in
     let one = finished_once n g f l b value (omega arith) (omega arith) in
     let two =
-    twice (line_of n l) g value n k at j a
-    (λ d. let z : line_of n l k ≡ cell = ap (line_of n l) d ∙ e in omega arith)
-    (before_cell g pad cell value (line_of n l k) h s ∙ q) (ap (λ i. get_or g i 0) e ∙ here) in
+    twice (line_of n l) g value n k at (omega arith) a (omega arith)
+    (before_cell g pad cell value s (line_of n l k) (before k j) ∙ q) (ap (λ i. get_or g i 0) e ∙ here) in
     omega arith
 
 pub given-length : (p : Latin) → length (given p) ≡ cell_count p
-given-length p = finished-length p.size (given p) p.solved
+given-length p = p.full
 
 -- A rival that goes on from the pad with the value: the value may stand.
 stands : (p : Latin) (clues : ℕ) (pad : List ℕ) (cell value : ℕ) (g : List ℕ) → cell < cell_count p → cell < length pad
@@ -49,35 +37,36 @@ stands p clues pad cell value g c m t s =
     let lh = finished-length p.size g f in
     let row = row_below p.size cell c in
     let column = column_below p.size cell c in (
-      (λ h. sym (get_or-take (cell_count p) p.values cell 0 c) ∙ (agree_decides clues (given p) g).0 t.1 cell (omega arith) h
-          ∙ at_cell g pad cell value m s),
-      unused_in n g pad cell value (cell / n) (cell % n) f c m (omega arith) column (in_row n cell c) s,
-      unused_in n g pad cell value (n + cell % n) (cell / n) f c m (omega arith) row (in_column n cell c) s,
+      (λ h. (agree_decides clues (given p) g).0 t.1 cell (omega arith) h ∙ at_cell g pad cell value m s),
+      unused_in n g pad cell value (cell / n) (cell % n) f c m (omega arith) column (in_row n cell c) (λ k. row_before n cell k c) s,
+      unused_in n g pad cell value (n + cell % n) (cell / n) f c m (omega arith) row (in_column n cell c) (λ k. column_before n cell k c) s,
     )
 
+-- No value below this one, put in the cell, leads to a rival.
+abbrev pub NoneBelow : Latin → ℕ → List ℕ → ℕ → ℕ → Type 0
+NoneBelow p clues pad cell value = (v : ℕ) → v < value → 0 < v → DeadEnd p clues (set pad cell v) (cell + 1)
+
+-- Nor does this one, if the search with it found none.
+pub tried : (p : Latin) (clues : ℕ) (filled pad : List ℕ) (cell value : ℕ) → filled ≡ set pad cell value → NoneBelow p clues pad cell value
+    → DeadEnd p clues filled (cell + 1) → NoneBelow p clues pad cell (value + 1)
+tried p clues filled pad cell value e h d = below_more _ _ h (λ _. subst (λ (x : List ℕ). DeadEnd p clues x (cell + 1)) e d)
+
+-- A value that may not stand leads nowhere.
 pub passed_over : (p : Latin) (clues : ℕ) (pad : List ℕ) (cell value : ℕ) → cell < cell_count p → cell < length pad
     → (MayStand p clues pad cell value → ⊥) → DeadEnd p clues (set pad cell value) (cell + 1)
 passed_over p clues pad cell value c m no_way g t s = no_way (stands p clues pad cell value g c m t s)
 
--- A grid that is the pad below a cell is the pad with the grid's own value in the cell, one cell further.
-same_more : (g pad : List ℕ) (cell : ℕ) → cell < length pad → SameBelow cell g pad → SameBelow (cell + 1) g (set pad cell (get_or g cell 0))
-same_more g pad cell l s i h =
-    ⊎_elim
-    (λ (e : i ≡ cell).
-    ap (λ j. get_or g j 0) e ∙ sym (get_or-set_same pad cell (get_or g cell 0) 0 l)
-    ∙ ap (λ j. get_or (set pad cell (get_or g cell 0)) j 0) (sym e))
-    (λ (ne : i ≡ cell → ⊥). s i (omega arith) ∙ sym (get_or-set_other pad cell i (get_or g cell 0) 0 ne))
-    (cases_eq i cell)
+pub not_tried : (p : Latin) (clues : ℕ) (pad start : List ℕ) (cell value : ℕ) → pad ≡ start → NoneBelow p clues start cell value → cell < cell_count p
+    → cell < length pad → (MayStand p clues pad cell value → ⊥) → NoneBelow p clues start cell (value + 1)
+not_tried p clues pad start cell value e h c m no_way =
+    tried p clues (set pad cell value) start cell value (ap (λ x. set x cell value) e) h (passed_over p clues pad cell value c m no_way)
 
 -- If no value in the cell leads to a rival, there is none.
-pub exhausted : (p : Latin) (clues : ℕ) (pad : List ℕ) (cell : ℕ) → cell < cell_count p → cell < length pad
-    → ((v : ℕ) → v < p.size + 1 → 0 < v → DeadEnd p clues (set pad cell v) (cell + 1)) → DeadEnd p clues pad cell
-exhausted p clues pad cell l m none g t s =
+pub exhausted : (p : Latin) (clues : ℕ) (pad : List ℕ) (cell most : ℕ) → cell < cell_count p → cell < length pad → p.size < most
+    → NoneBelow p clues pad cell most → DeadEnd p clues pad cell
+exhausted p clues pad cell most l m b none g t s =
     let v = finished_value p.size g t.0.0 cell l in
-    none (get_or g cell 0) (omega (arith, v.1)) (omega (arith, v.0)) g t (same_more g pad cell m s)
-
-pub dead_end_at : (p : Latin) (clues : ℕ) (l m : List ℕ) (i v k : ℕ) → l ≡ m → DeadEnd p clues (set l i v) k → DeadEnd p clues (set m i v) k
-dead_end_at p clues l m i v k e h = subst (λ (x : List ℕ). DeadEnd p clues (set x i v) k) e h
+    none (get_or g cell 0) (omega (arith, v.1)) (omega (arith, v.0)) g t (same_more g pad cell (get_or g cell 0) m s refl)
 
 -- A finished grid that is the pad in every cell is the pad's front.
 whole : (p : Latin) (clues : ℕ) (g pad : List ℕ) → IsAgreeingRival p clues g → cell_count p ≤ length pad → SameBelow (cell_count p) g pad
@@ -89,6 +78,7 @@ whole p clues g pad t l s =
     (λ i h. let k : i < cell_count p = omega arith in s i k ∙ sym (get_or-take (cell_count p) pad i 0 k))
 
 -- A filled pad whose front is no such rival leads to none.
-pub none_filled : (p : Latin) (clues : ℕ) (pad : List ℕ) → cell_count p ≤ length pad → (IsAgreeingRival p clues (take (cell_count p) pad) → ⊥)
+pub none_filled : (p : Latin) (clues : ℕ) (pad : List ℕ) (k : ℕ) → k ≡ cell_count p → k ≤ length pad → (IsAgreeingRival p clues (take k pad) → ⊥)
     → DeadEnd p clues pad (cell_count p)
-none_filled p clues pad l no_rival g t s = no_rival (subst (λ (x : List ℕ). IsAgreeingRival p clues x) (whole p clues g pad t l s) t)
+none_filled p clues pad k e l no_rival g t s =
+    no_rival (subst (λ (x : List ℕ). IsAgreeingRival p clues x) (whole p clues g pad t (omega arith) s ∙ ap (λ n. take n pad) (sym e)) t)

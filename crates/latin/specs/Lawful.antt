@@ -8,7 +8,7 @@ use Rattle.cells.proofs.LineLaws.{keeps-length, keeps_value}
 use Rattle.finder.specs.Meaning.{Lawful}
 use Rattle.latin.specs.declared.puzzle.Latin.{Latin}
 use Rattle.latin.specs.Rules.{line_of, finished}
-use Rattle.latin.specs.Puzzle.{given, meaning_of}
+use Rattle.latin.specs.Puzzle.{meaning_of}
 
 -- No value of a finished grid is above n; past the grid it is 0.
 most : (n : ℕ) (g : List ℕ) → finished n g ≡ true → (c : ℕ) → slice_index g c ≤ n
@@ -21,11 +21,10 @@ most n g f c =
 pub puzzle_lawful : (p : Latin) → Lawful (meaning_of p)
 puzzle_lawful p =
     let n = p.size in
-    let long = keeps-length n (2 * n) (line_of n) (given p) p.solved in
     record {
-      some = omega (arith, mul-le 1 1 n n p.positive p.positive);
-      few = omega (arith, p.square);
+      some = omega (arith, p.full, mul-le 1 1 n n p.positive p.positive);
+      few = omega (arith, p.full, p.square);
       solved = p.solved;
-      sized = λ g f. keeps-length n (2 * n) (line_of n) g f ∙ sym long;
+      sized = λ g f. keeps-length n (2 * n) (line_of n) g f ∙ sym p.full;
       bytes = λ g f c. omega (arith, most n g f c, p.small);
     }

@@ -1,5 +1,5 @@
 -- What a puzzle is made of, and when none is made.
-use Rattle.std.specs.Prelude.{ℕ, ◌*◌, Bool, cond, List, length, take, Ok, Err, Result, ◌==◌}
+use Rattle.std.specs.Prelude.{ℕ, ◌*◌, Bool, cond, List, length, Ok, Err, Result, ◌==◌}
 use Rattle.cells.specs.Refusals.{number_of}
 use Rattle.cells.specs.declared.refusal.Refusal.{Refusal}
 use Rattle.finder.specs.Meaning.{Meaning}
@@ -11,7 +11,7 @@ abbrev pub cell_count : Latin → ℕ
 cell_count p = p.size * p.size
 
 abbrev pub given : Latin → List ℕ
-given p = take (cell_count p) p.values
+given p = p.grid.items
 
 abbrev pub solves : Latin → List ℕ → Bool
 solves p = finished p.size

@@ -1,11 +1,12 @@
 -- What a search for a rival answers, and what it leaves in the strip.
-use Rattle.std.specs.Prelude.{◌≡◌, ℕ, ◌+◌, ◌/◌, ◌%◌, ◌<◌, Bool, true, false, List, ◌≢◌, slice_index, Option}
+use Rattle.std.specs.Prelude.{◌≡◌, ℕ, ◌+◌, ◌/◌, ◌%◌, ◌<◌, true, List, ◌≢◌, slice_index, Option}
 use Rattle.cells.specs.Sets.{has}
 use Rattle.cells.specs.Grids.{in_strip}
 use Rattle.cells.specs.Rivals.{AgreeingRival, AdmitsOnly}
 use Rattle.finder.specs.declared.found.Found.{Found}
 use Rattle.finder.specs.declared.found.Found.TheVariants.{Rival, NoRival}
 use Rattle.finder.specs.Finding.{Answers}
+use Rattle.finder.specs.Searching.{SameBelow}
 use Rattle.latin.specs.declared.puzzle.Latin.{Latin}
 use Rattle.latin.specs.Rules.{line_of}
 use Rattle.latin.specs.Puzzle.{given, solves, meaning_of}
@@ -27,26 +28,22 @@ Finds p clues NoRival before after = AdmitsOnly (solves p) (given p) clues × (a
 abbrev pub Asks : Latin → ℕ → Option (List ℕ) → Latin → Type 0
 Asks p clues answer q = (q ≡ p) × Answers (meaning_of p) clues answer
 
--- Two grids have the same values in the cells below k.
-abbrev pub SameBelow : ℕ → List ℕ → List ℕ → Type 0
-SameBelow k g h = (c : ℕ) → c < k → slice_index g c ≡ slice_index h c
-
 -- No such rival begins with the pad's first k cells.
 abbrev pub DeadEnd : Latin → ℕ → List ℕ → ℕ → Type 0
 DeadEnd p clues pad k = (g : List ℕ) → IsAgreeingRival p clues g → SameBelow k g pad → ⊥
 
 -- What the search answers that goes on from the pad's first k cells.
-abbrev pub FindsFrom : Latin → ℕ → List ℕ → ℕ → Bool → List ℕ → List ℕ → Type 0
-FindsFrom p clues pad k true before after = Holds p clues before after
-FindsFrom p clues pad k false before after = DeadEnd p clues pad k × (after ≡ before)
+abbrev pub FindsFrom : Latin → ℕ → List ℕ → ℕ → Found → List ℕ → List ℕ → Type 0
+FindsFrom p clues pad k Rival before after = Holds p clues before after
+FindsFrom p clues pad k NoRival before after = DeadEnd p clues pad k × (after ≡ before)
 
--- Of the n cells of the line, none that comes before the cell holds the value in the pad.
-abbrev pub Unused : (ℕ → ℕ) → ℕ → List ℕ → ℕ → ℕ → Type 0
-Unused line n pad cell value = (k : ℕ) → k < n → line k < cell → slice_index pad (line k) ≢ value
+-- None of the line's first places holds the value in the pad.
+abbrev pub Unused : (ℕ → ℕ) → ℕ → List ℕ → ℕ → Type 0
+Unused line places pad value = (k : ℕ) → k < places → slice_index pad (line k) ≢ value
 
--- The value may stand in the cell: a clue there is this value, and it is unused in the row and the column before the cell.
+-- The value may stand in the cell: a clue there is this value, and it is unused in the row and in the column before the cell.
 abbrev pub MayStand : Latin → ℕ → List ℕ → ℕ → ℕ → Type 0
 MayStand p clues pad cell value =
-    (has clues cell ≡ true → slice_index p.values cell ≡ value)
-    × Unused (line_of p.size (cell / p.size)) p.size pad cell value
-    × Unused (line_of p.size (p.size + cell % p.size)) p.size pad cell value
+    (has clues cell ≡ true → slice_index (given p) cell ≡ value)
+    × Unused (line_of p.size (cell / p.size)) (cell % p.size) pad value
+    × Unused (line_of p.size (p.size + cell % p.size)) (cell / p.size) pad value

@@ -1,25 +1,13 @@
-//! The Latin puzzle as a finder.
+//! The Latin puzzle as a finder: how many cells its grids have, the given values, the judge and the questions.
 ghost use Rattle.std.specs.Prelude.{◌≡◌};
-ghost use Rattle.finder.specs.Meaning.{cell_count};
-ghost use Rattle.finder.specs.Finding.{named, Answers, strip_after};
-ghost use Rattle.latin.specs.Puzzle.{meaning_of};
+ghost use Rattle.latin.specs.Puzzle.{cell_count, solves, meaning_of};
 ghost use Rattle.latin.specs.Search.{Asks};
 ghost use Rattle.latin.specs.Lawful.{puzzle_lawful};
 
 use crate::puzzle::Latin;
+use crate::rules::is_finished;
 use cells::CellSet;
 use finder::{Finder, Found};
-
-impl Latin {
-    /// Looks for a rival as a finder does: what is named is read off the strip.
-    fn name_rival(&self, clues: CellSet, strip: &mut [u8; 64], pad: &mut [u8; 64]) -> Found
-        ensures answer { Answers (meaning_of self.now) clues (named (cell_count (meaning_of self.now)) result strip.new) }
-        ensures strip { strip.new ≡ strip_after (named (cell_count (meaning_of self.now)) result strip.new) strip.old }
-        ensures pad { pad.new ≡ pad.old }
-    {
-        Latin::find(self, clues, strip, pad)
-    }
-}
 
 impl Finder for Latin {
     ghost meaning = { meaning_of };
@@ -28,19 +16,24 @@ impl Finder for Latin {
 
     ghost lawful = { puzzle_lawful };
 
-    fn count(&self) -> usize {
-        Latin::count(self)
+    fn count(&self) -> usize
+        ensures { result ≡ cell_count self.now }
+    {
+        self.size * self.size
     }
 
     fn value(&self, cell: usize) -> u8 {
         cells::value_at(self.given(), cell)
     }
 
-    fn judge(&self, grid: &[u8]) -> bool {
-        Latin::judge(self, grid)
+    fn judge(&self, grid: &[u8]) -> bool
+        ensures { result ≡ solves self.now grid.now }
+    {
+        is_finished(self.size, grid)
     }
 
+    #[tactic(auto, using(crate::proofs::FindingLaws::found_named))]
     fn find(&mut self, clues: CellSet, strip: &mut [u8; 64], pad: &mut [u8; 64]) -> Found {
-        self.name_rival(clues, strip, pad)
+        Latin::find(self, clues, strip, pad)
     }
 }

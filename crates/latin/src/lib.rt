@@ -2,7 +2,6 @@
 #![tactic(auto)]
 
 mod finding;
-mod judge;
 mod puzzle;
 mod rules;
 mod search;

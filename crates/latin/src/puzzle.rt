@@ -1,14 +1,49 @@
-ghost use Rattle.std.specs.Prelude.{◌≡◌, ◌*◌, ◌≤◌, true, length, take};
+ghost use Rattle.std.specs.Prelude.{◌≡◌, ◌*◌, ◌≤◌, true, length};
 ghost use Rattle.latin.specs.Rules.{finished};
 
-/// A Latin puzzle: the size of its grids, and the given grid, which is finished, in the first of the values.
+use crate::rules::{is_finished, is_size};
+use arrayvec::ArrayVec;
+use cells::Refusal;
+
+/// How many cells the largest grids have.
+const MOST_CELLS: usize = 36;
+
+/// A Latin puzzle: the size of its grids, and the given grid, which is finished.
 #[derive(Drop)]
 pub struct Latin {
     pub(crate) size: usize,
-    pub(crate) values: [u8; 64],
+    grid: ArrayVec<u8, MOST_CELLS>,
     ghost positive: { 1 ≤ size },
     ghost small: { size ≤ 6 },
     ghost square: { size * size ≤ 36 },
-    ghost long: { length values ≡ 64 },
-    ghost solved: { finished size (take (size * size) values) ≡ true },
+    ghost full: { length grid.items ≡ size * size },
+    ghost solved: { finished size grid.items ≡ true },
+}
+
+impl Latin {
+    ghost use Rattle.latin.specs.Puzzle.{given, puzzle_of, puzzle_shown};
+
+    /// The puzzle with the given grid, unless there is no such size, the grid has not one value for each cell, or it is not finished.
+    pub fn new(size: usize, grid: &[u8]) -> Result<Latin, Refusal>
+        ensures { puzzle_shown result ≡ puzzle_of size grid.now }
+    {
+        if !is_size(size) {
+            return Err(Refusal::Size);
+        }
+        if grid.len() != size * size {
+            return Err(Refusal::Form);
+        }
+        if !is_finished(size, grid) {
+            return Err(Refusal::Unfinished);
+        }
+        let grid = ArrayVec::try_from(grid).unwrap();
+        Ok(Latin { size, grid })
+    }
+
+    /// The given grid.
+    pub fn given(&self) -> &[u8]
+        ensures { result.now ≡ given self.now }
+    {
+        self.grid.as_slice()
+    }
 }

@@ -1,4 +1,4 @@
-ghost use Rattle.std.specs.Prelude.{◌≡◌, ◌*◌, ◌<◌, ◌≤◌, Decides, slice_set};
+ghost use Rattle.std.specs.Prelude.{◌≡◌, ◌*◌, ◌<◌, ◌≤◌, ◌≢◌, Decides, slice_index, slice_set};
 ghost use Rattle.latin.specs.Rules.{line_of};
 ghost use Rattle.latin.specs.Puzzle.{cell_count};
 ghost use Rattle.latin.specs.Search.{IsAgreeingRival, Finds, FindsFrom, Unused, MayStand};
@@ -6,7 +6,8 @@ ghost use Rattle.latin.specs.Search.{IsAgreeingRival, Finds, FindsFrom, Unused, 
 use crate::puzzle::Latin;
 use crate::rules::cell_at;
 use cells::CellSet;
-use finder::Found;
+use finder::{Finder, Found};
+use std::mem;
 
 /// A cell of the lent pad that is filled on trial; its old value comes back when the trial ends.
 struct Trial<'a> {
@@ -15,17 +16,27 @@ struct Trial<'a> {
     old: u8,
 }
 
+impl<'a> Trial<'a> {
+    /// Puts the value in the cell until the trial ends.
+    fn new(pad: &'a mut [u8; 64], cell: usize, value: u8) -> Trial<'a>
+        requires { cell < 64 }
+        ensures lent { result.pad.ghost_name ≡ pad.entry.ghost_name }
+        ensures pad { result.pad.now ≡ slice_set pad.old cell value }
+        ensures cell { result.cell ≡ cell }
+        ensures old { result.old ≡ slice_index pad.old cell }
+    {
+        let old = mem::replace(&mut pad[cell], value);
+        Trial { pad, cell, old }
+    }
+}
+
 impl Drop for Trial<'_> {
     fn drop(self)
         requires { self.cell < 64 }
         ensures { self.exit.0.now ≡ slice_set self.entry.pad.now self.entry.cell self.entry.old }
     {
-        self.pad[self.cell] = self.old;
-        let Trial {
-            pad: _,
-            cell: _,
-            old: _,
-        } = self;
+        let Trial { pad, cell, old } = self;
+        pad[cell] = old;
     }
 }
 
@@ -37,15 +48,12 @@ impl Latin {
         ensures answer { Finds self.now clues result strip.old strip.new }
         ensures pad { pad.new ≡ pad.old }
     {
-        if self.search(0, clues, strip, pad) {
-            Found::Rival
-        } else {
-            Found::NoRival
-        }
+        self.search(0, clues, strip, pad)
     }
 
     /// The search from a cell on, where the pad holds the cells before it.
-    fn search(&self, cell: usize, clues: CellSet, strip: &mut [u8; 64], pad: &mut [u8; 64]) -> bool
+    #[tactic(auto, using(finder::proofs::SearchLaws::put_back))]
+    fn search(&self, cell: usize, clues: CellSet, strip: &mut [u8; 64], pad: &mut [u8; 64]) -> Found
         requires { cell ≤ cell_count self.now }
         ensures answer { FindsFrom self.now clues pad.old cell result strip.old strip.new }
         ensures pad { pad.new ≡ pad.old }
@@ -53,49 +61,34 @@ impl Latin {
         if cell == self.count() {
             return self.accept(clues, strip, pad);
         }
-        let most = self.size as u8;
-        for value in 1..most + 1 {
-            if !self.may_stand(cell, value, clues, pad) {
-                continue;
-            }
-            let old = pad[cell];
-            let trial = Trial {
-                pad: &mut *pad,
-                cell,
-                old,
-            };
-            trial.pad[cell] = value;
-            if self.search(cell + 1, clues, strip, trial.pad) {
-                return true;
+        for value in 1..=self.size as u8 {
+            if self.may_stand(cell, value, clues, pad) {
+                let trial = Trial::new(pad, cell, value);
+                if self.search(cell + 1, clues, strip, trial.pad) == Found::Rival {
+                    return Found::Rival;
+                }
             }
         }
-        false
+        Found::NoRival
     }
 
     /// Whether the filled pad holds a rival; it is then copied to the strip.
-    fn accept(&self, clues: CellSet, strip: &mut [u8; 64], pad: &[u8; 64]) -> bool
-        ensures { FindsFrom self.now clues pad.now (cell_count self.now) result
-            strip.old strip.new }
+    fn accept(&self, clues: CellSet, strip: &mut [u8; 64], pad: &[u8; 64]) -> Found
+        ensures { FindsFrom self.now clues pad.now (cell_count self.now) result strip.old strip.new }
     {
-        let grid = &pad[0..self.count()];
+        let grid = &pad[..self.count()];
         if !self.is_agreeing_rival(clues, grid) {
-            return false;
+            return Found::NoRival;
         }
         cells::put_in_strip(grid, strip);
-        true
+        Found::Rival
     }
 
     /// Whether the grid is a rival that agrees with the given grid on the clues.
     fn is_agreeing_rival(&self, clues: CellSet, grid: &[u8]) -> bool
         ensures { Decides result (IsAgreeingRival self.now clues grid.now) }
     {
-        if !self.judge(grid) {
-            return false;
-        }
-        if grid == self.given() {
-            return false;
-        }
-        cells::agree(clues, self.given(), grid)
+        self.judge(grid) && grid != self.given() && cells::agree(clues, self.given(), grid)
     }
 
     /// Whether the value may stand in the cell: it is no other than the clue there, and stands neither in the row nor in the column
@@ -104,26 +97,17 @@ impl Latin {
         requires { cell < cell_count self.now }
         ensures { Decides result (MayStand self.now clues pad.now cell value) }
     {
-        if cells::has(clues, cell) && self.values[cell] != value {
-            return false;
-        }
-        if !self.is_unused(cell / self.size, cell, value, pad) {
-            return false;
-        }
-        self.is_unused(self.size + cell % self.size, cell, value, pad)
+        let (row, column) = (cell / self.size, cell % self.size);
+        (!cells::has(clues, cell) || self.given()[cell] == value)
+            && self.is_unused(row, column, value, pad)
+            && self.is_unused(self.size + column, row, value, pad)
     }
 
-    /// Whether the value stands on no cell of the line that comes before the cell.
-    fn is_unused(&self, line: usize, cell: usize, value: u8, pad: &[u8; 64]) -> bool
-        requires { line < 2 * self.now.size }
-        ensures { Decides result (Unused (line_of self.now.size line) self.now.size pad.now cell value) }
+    /// Whether the value stands on none of the line's first places.
+    fn is_unused(&self, line: usize, places: usize, value: u8, pad: &[u8; 64]) -> bool
+        requires { (line < 2 * self.now.size) × (places ≤ self.now.size) }
+        ensures { Decides result (Unused (line_of self.now.size line) places pad.now value) }
     {
-        for place in 0..self.size {
-            let there = cell_at(self.size, line, place);
-            if there < cell && pad[there] == value {
-                return false;
-            }
-        }
-        true
+        !(0..places).any(|place| pad[cell_at(self.size, line, place)] == value)
     }
 }

@@ -12,12 +12,9 @@ fn search(size: usize, grid: &[u8], clues: CellSet) -> Result<(Found, [u8; 64]),
     Ok((found, strip))
 }
 
-/// The number by which a puzzle is refused, or 0.
-fn refusal(size: usize, grid: &[u8]) -> u8 {
-    match Latin::new(size, grid) {
-        Ok(_) => 0,
-        Err(refusal) => refusal.number(),
-    }
+/// The number by which a puzzle is refused.
+fn refusal(size: usize, grid: &[u8]) -> Option<u8> {
+    Latin::new(size, grid).err().map(|refusal| refusal.number())
 }
 
 #[test]
@@ -83,9 +80,9 @@ fn size_six_without_clues(rt: HostRuntime) -> Result<(), Fail> {
 
 #[test]
 fn each_refusal(rt: HostRuntime) {
-    assert_eq!(rt; refusal(0, &[]), 12);
-    assert_eq!(rt; refusal(7, &[1]), 12);
-    assert_eq!(rt; refusal(2, &[1, 2, 2]), 11);
-    assert_eq!(rt; refusal(2, &[1, 2, 1, 2]), 15);
-    assert_eq!(rt; refusal(2, &[1, 2, 2, 3]), 15);
+    assert_eq!(rt; refusal(0, &[]), Some(12));
+    assert_eq!(rt; refusal(7, &[1]), Some(12));
+    assert_eq!(rt; refusal(2, &[1, 2, 2]), Some(11));
+    assert_eq!(rt; refusal(2, &[1, 2, 1, 2]), Some(15));
+    assert_eq!(rt; refusal(2, &[1, 2, 2, 3]), Some(15));
 }

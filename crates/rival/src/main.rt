@@ -9,7 +9,7 @@ const MOST: usize = 20480;
 fn main(rt: HostRuntime) -> anyhow::Result<()> {
     let mut buffer = [0; MOST];
     let length = text::read_front(&mut rt.stdin(), &mut buffer)?;
-    let reply = uniqueness::reply_to_text(&buffer[0..length]);
+    let reply = uniqueness::reply_to_text(&buffer[..length]);
     rt.stdout().write_all(reply.as_bytes())?;
     Ok(())
 }

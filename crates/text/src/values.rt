@@ -29,7 +29,7 @@ pub(crate) fn read_marks(value: &[u8]) -> Option<CellSet>
     }
     let mut set = 0;
     for (cell, mark) in value.iter().enumerate() {
-        match *mark as char {
+        match char::from(*mark) {
             '#' => set = with(set, cell),
             '.' => {}
             _ => return None,

@@ -1,50 +1,56 @@
-use Rattle.std.proofs.Common.{length, ap, ◌∙◌, arith, below_more}
+use Rattle.std.proofs.Common.{◌≡◌, ℕ, ◌+◌, false, List, length, set, sym, ap, ◌∙◌, arith}
+use Rattle.std.proofs.lemmas.Bool.{true≢false}
 use Rattle.std.proofs.lemmas.Bool.Decides.{not_from_Decides}
-use Rattle.cells.specs.Grids.{in_strip}
-use Rattle.latin.proofs.SearchLaws.{restored, passed_over, exhausted, dead_end_at}
+use denote.Enum.Bare.{sameb}
+use Rattle.finder.specs.declared.found.Found.{Found}
+use Rattle.finder.specs.declared.found.Found.TheVariants.{Rival, NoRival}
+use Rattle.finder.specs.contracts.found.Found.{the_type}
+use Rattle.latin.specs.declared.puzzle.Latin.{Latin}
+use Rattle.latin.specs.Search.{FindsFrom}
+use Rattle.finder.proofs.SearchLaws.{put_back}
+use Rattle.latin.proofs.SearchLaws.{NoneBelow, tried, not_tried, exhausted}
 use Rattle.latin.proofs.puzzle.Latin.+search.Goals as goal
+use Rattle.latin.proofs.puzzle.Latin.+search.Goals.{then-may_stand+else-eq, else-may_stand, Joined-may_stand}
 
-pub loop-value-preserved-then-not-may_stand : goal.loop-value-preserved-then-not-may_stand
-loop-value-preserved-then-not-may_stand t c = (
-  c.loop-value.invariant.0,
-  c.loop-value.invariant.1,
-  below_more _ _ c.loop-value.invariant.2
-      (λ _. dead_end_at c.args.self.now _ _ _ _ _ _ c.loop-value.invariant.0
-      (passed_over c.args.self.now _ _ _ _ (omega arith) (omega (arith, ap length c.loop-value.invariant.0))
-      (not_from_Decides _ c.may_stand.ensures c.if-not-may_stand.true))),
-)
+-- What is not `Rival` is `NoRival`.
+none_found : (p : Latin) (clues : ℕ) (pad : List ℕ) (k : ℕ) (found : Found) (before after : List ℕ) → sameb the_type found Rival ≡ false
+    → FindsFrom p clues pad k found before after → FindsFrom p clues pad k NoRival before after
+none_found p clues pad k Rival before after e f = absurd (true≢false e)
+none_found p clues pad k NoRival before after e f = f
 
-pub drop-trial-requires : goal.drop-trial-requires
-drop-trial-requires t c = omega arith
-
-pub returns-then-search : goal.returns-then-search
-returns-then-search t c =
-    let h = c.if-search.ensures.answer in
-    record {
-      answer = (h.0, h.1, h.2 ∙ ap (in_strip h.0) c.loop-value.invariant.1);
-      pad =
-          restored c.loop-value.pad c.search.new.pad _ c.args.cell c.loop-value.value c.search.ensures.pad
-          c.drop-trial.ensures
-          ∙ c.loop-value.invariant.0;
+-- The invariant, for the next value.
+tried_one : (t : ℕ) (c : Joined-may_stand t)
+    → record {
+      pad : c.if-may_stand.pad ≡ c.args.pad.now;
+      strip : c.if-may_stand.strip ≡ c.args.strip.now;
+      none : NoneBelow c.args.self.now c.args.clues c.args.pad.now c.args.cell (c.loop-value.value + 1);
     }
-
-pub drop-trial-requires-in-loop-value : goal.drop-trial-requires-in-loop-value
-drop-trial-requires-in-loop-value t c = omega arith
+tried_one t c =
+    let p = c.args.self.now in
+    let i = c.loop-value.invariant in
+    elim c.if-may_stand.branch [
+      | then-may_stand+else-eq w ↦
+          let h = none_found p _ _ _ _ _ _ (sym w.eq.ensures ∙ w.if-eq.false) w.search.ensures.answer in
+          record {
+            pad = grind (arith, put_back);
+            strip = w.strip-is ∙ h.1 ∙ i.strip;
+            none =
+                tried p _ _ _ _ _ (w.new-trial.ensures.pad ∙ ap (λ x. set x c.args.cell c.loop-value.value) i.pad) i.none h.0;
+          }
+      | else-may_stand w ↦
+          record {
+            pad = w.pad-is ∙ i.pad;
+            strip = w.strip-is ∙ i.strip;
+            none =
+                not_tried p _ _ _ _ _ i.pad i.none (omega arith) (omega (arith, ap length i.pad))
+                (not_from_Decides _ c.may_stand.ensures w.if-may_stand.false);
+          }
+    ]
 
 pub loop-value-preserved : goal.loop-value-preserved
-loop-value-preserved t c =
-    let h = c.if-search.ensures.answer in (
-      restored c.loop-value.pad c.search.new.pad _ c.args.cell c.loop-value.value c.search.ensures.pad
-          c.drop-trial-in-loop-value.ensures
-          ∙ c.loop-value.invariant.0,
-      h.1 ∙ c.loop-value.invariant.1,
-      below_more _ _ c.loop-value.invariant.2 (λ _. dead_end_at c.args.self.now _ _ _ _ _ _ c.loop-value.invariant.0 h.0),
-    )
+loop-value-preserved t c = tried_one t (goal.at.loop-value-preserved t c).Joined-may_stand
 
-pub returns : goal.returns
-returns t c =
-    record {
-      answer =
-          (exhausted c.args.self.now _ _ _ (omega arith) (omega arith) (λ v h. c.loop-value.invariant.2 v (omega arith)), c.loop-value.invariant.1);
-      pad = c.loop-value.invariant.0;
-    }
+pub returns-after-may_stand-clause-answer : goal.returns-after-may_stand-clause-answer
+returns-after-may_stand-clause-answer t c =
+    let i = tried_one t (goal.at.returns-after-may_stand-clause-answer t c).Joined-may_stand in
+    (exhausted c.args.self.now _ _ _ (c.loop-value.value + 1) (omega arith) (omega arith) (omega arith) i.none, i.strip)

@@ -1,6 +1,6 @@
-use Rattle.std.proofs.Common.{◌≡◌, ℕ, ◌+◌, ◌-◌, ◌<◌, set}
+use Rattle.std.proofs.Common.{◌≡◌, ◌-◌}
 use Rattle.latin.specs.Puzzle.{cell_count}
-use Rattle.latin.specs.Search.{DeadEnd}
+use Rattle.latin.proofs.SearchLaws.{NoneBelow}
 use Rattle.latin.proofs.puzzle.Latin.+search.Given as goal
 
 abbrev pub decreases-search : goal.decreases-search
@@ -8,5 +8,8 @@ decreases-search l = cell_count l.self.now - l.cell
 
 abbrev pub invariant-loop-value : goal.invariant-loop-value
 invariant-loop-value l =
-    (l.pad ≡ l.initial.pad) × (l.strip ≡ l.initial.strip)
-    × ((v : ℕ) → v < l.value → 0 < v → DeadEnd l.self l.clues (set l.initial.pad l.cell v) (l.cell + 1))
+    record {
+      pad : l.pad ≡ l.initial.pad;
+      strip : l.strip ≡ l.initial.strip;
+      none : NoneBelow l.self l.clues l.initial.pad l.cell l.value;
+    }
