@@ -1,6 +1,6 @@
 -- What a finished Latin grid is, line by line.
-use Rattle.std.proofs.Common.{◌≡◌, ℕ, zero, suc, ◌+◌, ◌-◌, ◌*◌, ◌/◌, ◌%◌, ◌<◌, ◌≤◌, true, ltb, leb, List, length, get_or, sym, ap, ◌∙◌, not-suc-le-zero, mod-lt, arith}
-use Rattle.std.proofs.lemmas.Bool.{and_parts, leb-true, cond-true, cond-false, lt-ltb, le-ltb}
+use Rattle.std.proofs.Common.{◌≡◌, ℕ, zero, suc, ◌+◌, ◌-◌, ◌*◌, ◌/◌, ◌%◌, ◌<◌, ◌≤◌, true, ltb, leb, List, length, get_or, sym, ap, ◌∙◌, not-suc-le-zero, mod-lt, ⊎_elim, arith}
+use Rattle.std.proofs.lemmas.Bool.{cases_lt, and_parts, leb-true, cond-true, cond-false, lt-ltb, le-ltb}
 use Rattle.std.proofs.lemmas.Nat.{mul-le, div-add-mod', div_below}
 use Rattle.cells.specs.Lines.{count}
 use Rattle.cells.proofs.LineLaws.{Apart, keeps_from, keeps-length, keeps_value, keeps_once}
@@ -38,6 +38,17 @@ row_before n c k l h = omega (arith, row_at n c k l, div-add-mod' c n)
 pub column_before : (n c k : ℕ) → c < n * n → k < c / n → line_of n (n + c % n) k < c
 column_before n c k l h =
     omega (arith, column_at n c k, div-add-mod' c n, size_pos n c l, mul-le (k + 1) n (c / n) n (omega arith) (omega arith))
+
+-- So the places of a line before the cell's own are all that hold cells before it.
+pub before_in_row : (n c k : ℕ) → c < n * n → line_of n (c / n) k < c → k < c % n
+before_in_row n c k l h = omega (arith, row_at n c k l, div-add-mod' c n)
+
+pub before_in_column : (n c k : ℕ) → c < n * n → line_of n (n + c % n) k < c → k < c / n
+before_in_column n c k l h =
+    ⊎_elim
+    (λ (b : k < c / n). b)
+    (λ (b : c / n ≤ k). absurd (omega (arith, column_at n c k, div-add-mod' c n, mul-le (c / n) n k n b (omega arith))))
+    (cases_lt k (c / n))
 
 -- A grid whose rows and columns were all gone through is finished.
 pub finished_from : (n : ℕ) (g : List ℕ) → length g ≡ n * n → ((l : ℕ) → l < 2 * n → Apart n (line_of n l) g) → finished n g ≡ true
