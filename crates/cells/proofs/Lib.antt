@@ -3,4 +3,3 @@ pub mod SetLaws
 pub mod Bits
 pub mod GridLaws
 pub mod LineLaws
-pub mod Folds

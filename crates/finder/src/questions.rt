@@ -1,8 +1,7 @@
 //! Questions that any finder answers.
-ghost use Rattle.std.specs.Prelude.{◌≡◌, ℕ, ◌≤◌, not, List, is_some, Decides, MatchBool, Option};
+ghost use Rattle.std.specs.Prelude.{◌≡◌, ℕ, not, List, is_some, Decides, MatchBool, Option};
 ghost use Rattle.cells.specs.Sets.{has, without};
-ghost use Rattle.cells.specs.Grids.{agree, with_front, in_strip};
-ghost use Rattle.finder.specs.Meaning.{cell_count};
+ghost use Rattle.cells.specs.Grids.{agree, in_strip};
 ghost use Rattle.finder.specs.Rivals.{AdmitsOnly, CanSpare, AdmitsIffMeets};
 
 use crate::finder::Finder;
@@ -40,15 +39,7 @@ pub fn can_spare<F: Finder>(finder: &mut F, clues: CellSet, cell: usize) -> bool
 pub fn put_given<F: Finder>(finder: &F, strip: &mut [u8; 64])
     ensures { strip.new ≡ in_strip (F.meaning finder.now).given strip.old }
 {
-    copy_values(finder, finder.count(), strip);
-}
-
-/// Copies the given grid's first `count` values.
-fn copy_values<F: Finder>(finder: &F, count: usize, strip: &mut [u8; 64])
-    requires { count ≤ cell_count (F.meaning finder.now) }
-    ensures { strip.new ≡ with_front count (F.meaning finder.now).given strip.old }
-{
-    for (cell, place) in strip[..count].iter_mut().enumerate() {
+    for (cell, place) in strip[..finder.count()].iter_mut().enumerate() {
         *place = finder.value(cell);
     }
 }

@@ -46,10 +46,14 @@ stands p clues pad cell value g c m t s =
 abbrev pub NoneBelow : Latin → ℕ → List ℕ → ℕ → ℕ → Type 0
 NoneBelow p clues pad cell value = (v : ℕ) → v < value → 0 < v → DeadEnd p clues (set pad cell v) (cell + 1)
 
--- Nor does this one, if the search with it found none.
-pub tried : (p : Latin) (clues : ℕ) (filled pad : List ℕ) (cell value : ℕ) → filled ≡ set pad cell value → NoneBelow p clues pad cell value
-    → DeadEnd p clues filled (cell + 1) → NoneBelow p clues pad cell (value + 1)
-tried p clues filled pad cell value e h d = below_more _ _ h (λ _. subst (λ (x : List ℕ). DeadEnd p clues x (cell + 1)) e d)
+-- What leads nowhere from one pad leads nowhere from an equal one.
+pub dead_end_at : (p : Latin) (clues : ℕ) (l m : List ℕ) (i v k : ℕ) → l ≡ m → DeadEnd p clues (set l i v) k → DeadEnd p clues (set m i v) k
+dead_end_at p clues l m i v k e h = subst (λ (x : List ℕ). DeadEnd p clues (set x i v) k) e h
+
+-- Nor does this value, if the search with it found none.
+pub tried : (p : Latin) (clues : ℕ) (pad start : List ℕ) (cell value : ℕ) → pad ≡ start → NoneBelow p clues start cell value
+    → DeadEnd p clues (set pad cell value) (cell + 1) → NoneBelow p clues start cell (value + 1)
+tried p clues pad start cell value e h d = below_more _ _ h (λ _. dead_end_at p clues pad start cell value (cell + 1) e d)
 
 -- A value that may not stand leads nowhere.
 pub passed_over : (p : Latin) (clues : ℕ) (pad : List ℕ) (cell value : ℕ) → cell < cell_count p → cell < length pad
@@ -59,7 +63,7 @@ passed_over p clues pad cell value c m no_way g t s = no_way (stands p clues pad
 pub not_tried : (p : Latin) (clues : ℕ) (pad start : List ℕ) (cell value : ℕ) → pad ≡ start → NoneBelow p clues start cell value → cell < cell_count p
     → cell < length pad → (MayStand p clues pad cell value → ⊥) → NoneBelow p clues start cell (value + 1)
 not_tried p clues pad start cell value e h c m no_way =
-    tried p clues (set pad cell value) start cell value (ap (λ x. set x cell value) e) h (passed_over p clues pad cell value c m no_way)
+    tried p clues pad start cell value e h (passed_over p clues pad cell value c m no_way)
 
 -- If no value in the cell leads to a rival, there is none.
 pub exhausted : (p : Latin) (clues : ℕ) (pad : List ℕ) (cell most : ℕ) → cell < cell_count p → cell < length pad → p.size < most

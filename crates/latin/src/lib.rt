@@ -6,7 +6,7 @@ mod puzzle;
 mod rules;
 mod search;
 
-pub use finder::Found;
+pub use finder::{Finder, Found};
 pub use puzzle::Latin;
 pub use rules::is_size;
 

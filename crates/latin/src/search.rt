@@ -103,7 +103,7 @@ impl Latin {
             && self.is_unused(self.size + column, row, value, pad)
     }
 
-    /// Whether the value stands on none of the line's first places.
+    /// Whether the value stands on none of the line's first `places` places.
     fn is_unused(&self, line: usize, places: usize, value: u8, pad: &[u8; 64]) -> bool
         requires { (line < 2 * self.now.size) × (places ≤ self.now.size) }
         ensures { Decides result (Unused (line_of self.now.size line) places pad.now value) }

@@ -1,4 +1,4 @@
-ghost use Rattle.std.specs.Prelude.{◌≡◌};
+ghost use Rattle.std.specs.Prelude.{◌≡◌, codes};
 ghost use Rattle.text.specs.Form.{TakesExactly};
 ghost use Rattle.text.specs.Question.{size_line, text_end, read_question, value_under, kind_value, grid_value, map_value, clues_value, kind_name, question_shown, ReadsLine};
 ghost use Rattle.text.specs.Lines.{kind, size, grid, map, clues, token_shown, shown, value_shown};
@@ -41,7 +41,7 @@ fn read_lines(text: &[u8]) -> Result<Question<'_>, Refused>
     let (size, rest) = read_size(rest)?;
     let cells = size * size;
     let (grid, rest) = read_line(rest, 3, |token| grid_of(token, cells))?;
-    let (_, rest) = read_line(rest, 4, map_of)?;
+    let ((), rest) = read_line(rest, 4, map_of)?;
     let (clues, rest) = read_line(rest, 5, |token| clues_of(token, cells))?;
     read_end(rest)?;
     Ok(Question {
@@ -113,11 +113,11 @@ fn grid_of(token: Token<'_>, cells: usize) -> Option<&[u8]>
 }
 
 /// `map=`: a Latin grid has none.
-fn map_of(token: Token<'_>) -> Option<&[u8]>
-    ensures { option_map (λ x. x.now) result ≡ value_under map map_value (token_shown token.entry) }
+fn map_of(token: Token<'_>) -> Option<()>
+    ensures { option_map (λ _. codes "-") result ≡ value_under map map_value (token_shown token.entry) }
 {
     match token {
-        Token::Map(value @ b"-") => Some(value),
+        Token::Map(b"-") => Some(()),
         _ => None,
     }
 }

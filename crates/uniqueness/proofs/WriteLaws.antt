@@ -1,5 +1,5 @@
--- Marks, written one after the other.
-use Rattle.std.proofs.Common.{decimal, ◌<◌, ◌≤◌, ◌^◌, length, arith, ◌≡◌, ℕ, ◌+◌, cond, [], ◌∷◌, ◌++◌, arith}
+-- Marks, written one after the other, and the length of a number's digits.
+use Rattle.std.proofs.Common.{◌≡◌, ℕ, ◌+◌, ◌^◌, ◌<◌, ◌≤◌, cond, [], ◌∷◌, ◌++◌, length, decimal, arith}
 use Rattle.std.proofs.lemmas.Fmt.{length-decimal-le}
 use Rattle.std.proofs.lemmas.Grind.{common_steps}
 use Rattle.std.proofs.lemmas.List.FromFn.{length-map-range_with_len, map-range_with_len_more}

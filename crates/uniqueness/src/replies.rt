@@ -1,4 +1,4 @@
-ghost use Rattle.std.specs.Prelude.{MatchResult};
+ghost use Rattle.std.specs.Prelude.{◌≤◌, length, MatchResult};
 ghost use Rattle.cells.specs.Refusals.{number_of};
 ghost use Rattle.latin.specs.Puzzle.{given, solves};
 ghost use Rattle.text.specs.Question.{read_question};
@@ -17,7 +17,8 @@ const GRID_LINE: usize = 3;
 /// The reply to the text of a question: the lines that name a rival, that say there is none, or that refuse the text. Which of
 /// several rivals is named is left free.
 pub fn reply_to_text(text: &[u8]) -> Reply
-    ensures { Replies (read_question text.now) result }
+    ensures reply { Replies (read_question text.now) result }
+    ensures short { length result ≤ 88 }
 {
     answer_to(text).unwrap_or_else(refused_lines)
 }

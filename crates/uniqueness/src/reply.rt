@@ -28,9 +28,9 @@ impl Reply {
     /// The bytes of the text.
     pub fn as_bytes(&self) -> &[u8]
         ensures text { result.now ≡ self.now }
-        ensures short { length result.now ≤ MOST_BYTES }
+        ensures short { length result.now ≤ 88 }
     {
-        &self.text
+        self.text.as_slice()
     }
 
     /// No text yet.

@@ -6,12 +6,12 @@ use crate::reply::Reply;
 use arrayvec::ArrayVec;
 use text::Refused;
 
-/// The most cells that a grid may have.
-const MOST_CELLS: usize = 64;
+/// The most values that a grid may have.
+const MOST_VALUES: usize = 64;
 
 /// The values that the digits write.
-pub(crate) fn values_of(digits: &[u8]) -> ArrayVec<u8, MOST_CELLS>
-    requires { length digits.now ≤ MOST_CELLS }
+pub(crate) fn values_of(digits: &[u8]) -> ArrayVec<u8, MOST_VALUES>
+    requires { length digits.now ≤ MOST_VALUES }
     ensures { result.items ≡ values_of digits.now }
 {
     let mut values = ArrayVec::new();

@@ -1,4 +1,4 @@
-use Rattle.std.proofs.Common.{◌≡◌, ℕ, ◌+◌, false, List, length, set, sym, ap, ◌∙◌, arith}
+use Rattle.std.proofs.Common.{◌≡◌, ℕ, ◌+◌, false, List, length, sym, ap, ◌∙◌, subst, arith}
 use Rattle.std.proofs.lemmas.Bool.{true≢false}
 use Rattle.std.proofs.lemmas.Bool.Decides.{not_from_Decides}
 use denote.Enum.Bare.{sameb}
@@ -6,7 +6,7 @@ use Rattle.finder.specs.declared.found.Found.{Found}
 use Rattle.finder.specs.declared.found.Found.TheVariants.{Rival, NoRival}
 use Rattle.finder.specs.contracts.found.Found.{the_type}
 use Rattle.latin.specs.declared.puzzle.Latin.{Latin}
-use Rattle.latin.specs.Search.{FindsFrom}
+use Rattle.latin.specs.Search.{DeadEnd, FindsFrom}
 use Rattle.finder.proofs.SearchLaws.{put_back}
 use Rattle.latin.proofs.SearchLaws.{NoneBelow, tried, not_tried, exhausted}
 use Rattle.latin.proofs.puzzle.Latin.+search.Goals as goal
@@ -35,7 +35,8 @@ tried_one t c =
             pad = grind (arith, put_back);
             strip = w.strip-is ∙ h.1 ∙ i.strip;
             none =
-                tried p _ _ _ _ _ (w.new-trial.ensures.pad ∙ ap (λ x. set x c.args.cell c.loop-value.value) i.pad) i.none h.0;
+                tried p _ _ _ _ _ i.pad i.none
+                (subst (λ (x : List ℕ). DeadEnd c.args.self.now c.args.clues x (c.args.cell + 1)) w.new-trial.ensures.pad h.0);
           }
       | else-may_stand w ↦
           record {
