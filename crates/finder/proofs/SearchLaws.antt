@@ -113,7 +113,7 @@ module _ (m : Meaning) (laws : Lawful m) where
           omega (arith, distance_whole m laws g r.0)
 
   -- A solution that is the pad in every cell is the pad's front.
-  whole : (g pad : List ℕ) → m.solves g ≡ true → cell_count m ≤ length pad → SameBelow (cell_count m) g pad → g ≡ take (cell_count m) pad
+  pub whole : (g pad : List ℕ) → m.solves g ≡ true → cell_count m ≤ length pad → SameBelow (cell_count m) g pad → g ≡ take (cell_count m) pad
   whole g pad s l same =
       let e = laws.sized g s in
       let d = length-take-le (cell_count m) pad l in

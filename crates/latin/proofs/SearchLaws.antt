@@ -1,14 +1,14 @@
 -- Why the search finds a rival where there is one.
 use Rattle.std.proofs.Common.{◌≡◌, ℕ, ◌+◌, ◌*◌, ◌/◌, ◌%◌, ◌<◌, ◌≤◌, true, List, length, get_or, take, set, sym, refl, ap, ◌∙◌, subst, arith, below_more}
-use Rattle.std.proofs.lemmas.List.{get_or-take, ext_get_or, length-take-le}
 use Rattle.cells.proofs.LineLaws.{twice}
 use Rattle.cells.proofs.GridLaws.{agree_decides}
 use Rattle.finder.specs.Searching.{SameBelow}
-use Rattle.finder.proofs.SearchLaws.{at_cell, before_cell, same_more}
+use Rattle.finder.proofs.SearchLaws.{at_cell, before_cell, same_more, whole}
 use Rattle.latin.specs.declared.puzzle.Latin.{Latin}
 use Rattle.latin.specs.Rules.{line_of, finished}
-use Rattle.latin.specs.Puzzle.{cell_count, given}
+use Rattle.latin.specs.Puzzle.{cell_count, given, meaning_of}
 use Rattle.latin.specs.Search.{IsAgreeingRival, DeadEnd, Unused, MayStand}
+use Rattle.latin.specs.Lawful.{puzzle_lawful}
 use Rattle.latin.proofs.RuleLaws.{row_below, column_below, in_row, in_column, row_before, column_before, finished-length, finished_value, finished_once}
 
 -- In a finished grid that goes on from the pad with the value, the value is unused in each line of the cell before it.
@@ -72,17 +72,9 @@ exhausted p clues pad cell most l m b none g t s =
     let v = finished_value p.size g t.0.0 cell l in
     none (get_or g cell 0) (omega (arith, v.1)) (omega (arith, v.0)) g t (same_more g pad cell (get_or g cell 0) m s refl)
 
--- A finished grid that is the pad in every cell is the pad's front.
-whole : (p : Latin) (clues : ℕ) (g pad : List ℕ) → IsAgreeingRival p clues g → cell_count p ≤ length pad → SameBelow (cell_count p) g pad
-    → g ≡ take (cell_count p) pad
-whole p clues g pad t l s =
-    let e = finished-length p.size g t.0.0 in
-    let d = length-take-le (cell_count p) pad l in
-    ext_get_or 0 g (take (cell_count p) pad) (e ∙ sym d)
-    (λ i h. let k : i < cell_count p = omega arith in s i k ∙ sym (get_or-take (cell_count p) pad i 0 k))
-
 -- A filled pad whose front is no such rival leads to none.
 pub none_filled : (p : Latin) (clues : ℕ) (pad : List ℕ) (k : ℕ) → k ≡ cell_count p → k ≤ length pad → (IsAgreeingRival p clues (take k pad) → ⊥)
     → DeadEnd p clues pad (cell_count p)
 none_filled p clues pad k e l no_rival g t s =
-    no_rival (subst (λ (x : List ℕ). IsAgreeingRival p clues x) (whole p clues g pad t (omega arith) s ∙ ap (λ n. take n pad) (sym e)) t)
+    let front = whole (meaning_of p) (puzzle_lawful p) g pad t.0.0 (omega (arith, p.full)) (λ c h. s c (omega (arith, p.full))) in
+    no_rival (subst (λ (x : List ℕ). IsAgreeingRival p clues x) (front ∙ ap (λ n. take n pad) (p.full ∙ sym e)) t)
