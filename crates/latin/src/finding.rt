@@ -5,7 +5,6 @@ ghost use Rattle.latin.specs.Search.{Asks};
 ghost use Rattle.latin.specs.Lawful.{puzzle_lawful};
 
 use crate::puzzle::Latin;
-use crate::rules::is_finished;
 use cells::CellSet;
 use finder::{Finder, Found};
 
@@ -19,7 +18,7 @@ impl Finder for Latin {
     fn count(&self) -> usize
         ensures { result ≡ cell_count self.now }
     {
-        self.size * self.size
+        Latin::count(self)
     }
 
     fn value(&self, cell: usize) -> u8 {
@@ -29,7 +28,7 @@ impl Finder for Latin {
     fn judge(&self, grid: &[u8]) -> bool
         ensures { result ≡ solves self.now grid.now }
     {
-        is_finished(self.size, grid)
+        Latin::judge(self, grid)
     }
 
     #[tactic(auto, using(crate::proofs::FindingLaws::found_named))]

@@ -21,7 +21,7 @@ pub struct Latin {
 }
 
 impl Latin {
-    ghost use Rattle.latin.specs.Puzzle.{given, puzzle_of, puzzle_shown};
+    ghost use Rattle.latin.specs.Puzzle.{cell_count, given, solves, puzzle_of, puzzle_shown};
 
     /// The puzzle with the given grid, unless there is no such size, the grid has not one value for each cell, or it is not finished.
     pub fn new(size: usize, grid: &[u8]) -> Result<Latin, Refusal>
@@ -40,10 +40,24 @@ impl Latin {
         Ok(Latin { size, grid })
     }
 
+    /// How many cells the puzzle's grids have.
+    pub fn count(&self) -> usize
+        ensures { result ≡ cell_count self.now }
+    {
+        self.grid.len()
+    }
+
     /// The given grid.
     pub fn given(&self) -> &[u8]
         ensures { result.now ≡ given self.now }
     {
         self.grid.as_slice()
+    }
+
+    /// Whether the bytes are a finished grid of the puzzle's size.
+    pub fn judge(&self, grid: &[u8]) -> bool
+        ensures { result ≡ solves self.now grid.now }
+    {
+        is_finished(self.size, grid)
     }
 }

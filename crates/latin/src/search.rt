@@ -6,7 +6,7 @@ ghost use Rattle.latin.specs.Search.{IsAgreeingRival, Finds, FindsFrom, Unused, 
 use crate::puzzle::Latin;
 use crate::rules::cell_at;
 use cells::CellSet;
-use finder::{Finder, Found};
+use finder::Found;
 use std::mem;
 
 /// A cell of the lent pad that is filled on trial; its old value comes back when the trial ends.
