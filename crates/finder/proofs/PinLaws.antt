@@ -3,11 +3,11 @@ use Rattle.std.proofs.Common.{◌≡◌, ℕ, ◌^◌, ◌<◌, ◌≤◌, Bool,
 use Rattle.std.proofs.Math.Path.{fun_ext}
 use Rattle.std.proofs.Math.Bool.{and_assoc, and_comm}
 use Rattle.std.proofs.lemmas.Bool.{and_parts, and_from}
-use Rattle.cells.specs.Sets.{has, union, all_below}
+use Rattle.cells.specs.Sets.{has, union, intersection, all_below}
 use Rattle.cells.specs.Grids.{agree}
 use Rattle.cells.proofs.SetLaws.{set_of_below}
 use Rattle.cells.proofs.GridLaws.{agree-union, agree_inside}
-use Rattle.finder.specs.Meaning.{Meaning, cell_count}
+use Rattle.finder.specs.Meaning.{Meaning, cell_count, Lawful}
 use Rattle.finder.specs.Rivals.{AgreeingRival}
 use Rattle.finder.specs.Finding.{Answers, NamesNearest}
 use Rattle.finder.specs.Pinning.{pinned, pins_of}
@@ -25,6 +25,12 @@ pub pinned_inside : (m : Meaning) (pins : ℕ) → pins < 2 ^ 64 → cell_count 
 pinned_inside m pins l few =
     same_solutions m.given (pinned (pins_of pins m) m).solves (pinned pins m).solves
     (λ g. ap (λ b. m.solves g && b) (agree_inside pins m.given g l few))
+
+-- The same of the pins as the code takes those on the grid.
+pub pinned_cut : (m : Meaning) (pins n all cut : ℕ) → Lawful m → n ≡ cell_count m → all ≡ all_below n → cut ≡ intersection pins all → pins < 2 ^ 64
+    → pinned cut m ≡ pinned pins m
+pinned_cut m pins n all cut law e below taken l =
+    ap (λ p. pinned p m) (taken ∙ ap (intersection pins) (below ∙ ap all_below e)) ∙ pinned_inside m pins l law.few
 
 -- Two layers of pins mean what one with both means.
 pub pinned_twice : (m : Meaning) (outer inner : ℕ) → outer < 2 ^ 64 → inner < 2 ^ 64

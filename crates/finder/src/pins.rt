@@ -30,6 +30,7 @@ fn one_layer<F: Finder>(below: F, outer: CellSet, inner: CellSet) -> Pins<F>
 
 impl<F: Finder> Pins<F> {
     /// The finder under the pins. A pin that is no cell of the grid is no pin.
+    #[tactic(auto, using(crate::proofs::PinLaws::pinned_cut))]
     pub fn new(below: F, pins: CellSet) -> Pins<F>
         ensures below { result.below ≡ below }
         ensures pins { result.pins ≡ pins_of pins (F.meaning below) }
