@@ -36,6 +36,7 @@ pub fn can_spare<F: Finder>(finder: &mut F, clues: CellSet, cell: usize) -> bool
 }
 
 /// Puts the given grid in the first bytes of the strip, one for each cell; the rest of the strip stays as it is.
+#[tactic(auto, using(cells::proofs::GridLaws::front_more))]
 pub fn put_given<F: Finder>(finder: &F, strip: &mut [u8; 64])
     ensures { strip.new ≡ in_strip (F.meaning finder.now).given strip.old }
 {
