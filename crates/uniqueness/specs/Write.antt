@@ -1,7 +1,16 @@
 -- The lines of a reply.
-use Rattle.std.specs.Prelude.{ℕ, ◌+◌, ◌-◌, List, ◌++◌, map, length, codes, decimal}
+use Rattle.std.specs.Prelude.{ℕ, ◌+◌, ◌-◌, ◌≤◌, List, ◌++◌, map, length, codes, decimal}
 use Rattle.cells.specs.Grids.{differ}
 use Rattle.text.specs.Values.{marks_of}
+
+-- What a contract sees of a reply: the list of its bytes. None is longer than 88: a rival of 36 cells with its marks.
+pub record Text : Type 0 where
+  pub bytes : List ℕ
+  pub within : length bytes ≤ 88
+
+-- The bytes of a reply.
+abbrev pub text_of : Text → List ℕ
+text_of r = r.bytes
 
 -- The values that decimal digits write, one for each cell, and the digits of values.
 abbrev pub values_of : List ℕ → List ℕ

@@ -1,6 +1,6 @@
 ghost use Rattle.std.specs.Prelude.{◌≡◌, ◌<◌, ◌≤◌, length, All};
 ghost use Rattle.cells.specs.Refusals.{number_of};
-ghost use Rattle.uniqueness.specs.Write.{values_of, rival_lines, no_rival_line, refused_lines};
+ghost use Rattle.uniqueness.specs.Write.{text_of, values_of, rival_lines, no_rival_line, refused_lines};
 
 use crate::reply::Reply;
 use arrayvec::ArrayVec;
@@ -26,7 +26,7 @@ pub(crate) fn values_of(digits: &[u8]) -> ArrayVec<u8, MOST_VALUES>
 pub(crate) fn rival_lines(given: &[u8], rival: &[u8]) -> Reply
     requires few { length rival.now ≤ 36 }
     requires digits { All (λ value. value < 10) rival.now }
-    ensures { result ≡ rival_lines given.now rival.now }
+    ensures { text_of result ≡ rival_lines given.now rival.now }
 {
     let mut reply = Reply::new();
     reply.push_text(b"rival=");
@@ -39,7 +39,7 @@ pub(crate) fn rival_lines(given: &[u8], rival: &[u8]) -> Reply
 
 /// The line that says that there is no rival.
 pub(crate) fn no_rival_line() -> Reply
-    ensures { result ≡ no_rival_line }
+    ensures { text_of result ≡ no_rival_line }
 {
     let mut reply = Reply::new();
     reply.push_text(b"rival=none\n");
@@ -49,7 +49,7 @@ pub(crate) fn no_rival_line() -> Reply
 /// The lines that refuse a text.
 #[tactic(auto, using(crate::proofs::WriteLaws::few_digits))]
 pub(crate) fn refused_lines(refused: Refused) -> Reply
-    ensures { result ≡ refused_lines (number_of refused.refusal) refused.line }
+    ensures { text_of result ≡ refused_lines (number_of refused.refusal) refused.line }
 {
     let mut reply = Reply::new();
     reply.push_text(b"refused=");
