@@ -1,11 +1,14 @@
--- Texts that are written piece after piece, marks one after the other, and the length of a number's digits.
+-- Texts that are written piece after piece, marks one after the other, the length of a number's digits, and replies with the same text.
 use Rattle.std.proofs.Common.{◌≡◌, ℕ, ◌+◌, ◌/◌, ◌%◌, ◌^◌, ◌<◌, ◌≤◌, cond, List, [], ◌∷◌, ◌++◌, length, decimal, ap, ◌∙◌, append_assoc, arith}
+use Rattle.std.proofs.Math.Bridge.{le_prop}
+use Rattle.std.proofs.Math.Path.{path_j}
 use Rattle.std.proofs.lemmas.Fmt.{decimal_step, length-decimal-le}
 use Rattle.std.proofs.lemmas.Grind.{common_steps}
 use Rattle.std.proofs.lemmas.List.{length_push}
 use Rattle.std.proofs.lemmas.List.FromFn.{length-map-range_with_len, map-range_with_len_more}
 use Rattle.cells.specs.Sets.{has}
 use Rattle.text.specs.Values.{marks_of}
+use Rattle.uniqueness.specs.Write.{Text, text_of}
 
 -- A piece more at the end.
 pub more : (before now start piece next : List ℕ) → now ≡ before ++ next → before ≡ start ++ piece → now ≡ start ++ (piece ++ next)
@@ -34,3 +37,9 @@ five a b c d e o p q r s t =
     ∙ append_assoc ((a ++ b) ++ c) d e
     ∙ append_assoc (a ++ b) c (d ++ e)
     ∙ append_assoc a b (c ++ (d ++ e))
+
+-- Replies with the same text are the same.
+pub same_text : (a b : Text) → text_of a ≡ text_of b → a ≡ b
+same_text a b e =
+    path_j (λ (xs : List ℕ) (_ : a.bytes ≡ xs). (w : length xs ≤ 88) → a ≡ record { bytes = xs; within = w })
+    (λ w. ap (λ l. record { bytes = a.bytes; within = l }) (le_prop a.within w)) e b.within
