@@ -1,10 +1,12 @@
--- Where the first line of a text ends, and what a line is that does not have a key.
-use Rattle.std.proofs.Common.{◌≡◌, ℕ, zero, suc, ◌+◌, ◌<◌, ◌≤◌, cond, not, eqb, ltb, List, [], ◌∷◌, length, get_or, take, drop, None, Some, Option, refl, ap, ◌∙◌, ⊎_elim, add-one, arith}
+-- Where the first line of a text ends, which key it has, and which number.
+use Rattle.std.proofs.Common.{◌≡◌, ℕ, zero, suc, ◌+◌, ◌-◌, ◌<◌, ◌≤◌, false, cond, not, eqb, ltb, List, [], ◌∷◌, ◌++◌, length, get_or, take, drop, None, Some, Ok, Option, sym, refl, ap, ◌∙◌, ⊎_elim, add-one, arith, rules}
 use Rattle.std.specs.List.{position_or_len}
 use Rattle.std.specs.Option.{option_map}
+use Rattle.std.specs.Str.{bytes_eq}
 use Rattle.std.proofs.lemmas.Slice.Eq.{HasBytesAt}
-use Rattle.std.proofs.lemmas.Bool.{cond-true, cond-false, cases_Bool, eqb-true, eq-eqb, ne_eqb, lt-ltb, le-ltb}
-use Rattle.text.specs.Lines.{split_line, after, Key, key_text, KeyValue, under, as_key}
+use Rattle.std.proofs.lemmas.List.{take_rest}
+use Rattle.std.proofs.lemmas.Bool.{cond-true, cond-false, cases_Bool, eqb-true, eq-eqb, ne_eqb, lt-ltb, le-ltb, and_left, and_right}
+use Rattle.text.specs.Lines.{split_line, after, Key, KeyValue, under, next_line}
 
 -- No byte 10 stands before place i.
 abbrev pub Inside : List ℕ → ℕ → Type 0
@@ -37,9 +39,22 @@ split_none bs n =
     (cond-false (ltb (length bs) (length bs)) (Some (length bs)) None (le-ltb (length bs) (length bs) (omega arith)))
 
 -- What is read in s from place i on is read in b ∷ s one place later.
+down : (p : List ℕ) (b : ℕ) (s : List ℕ) (i : ℕ) → HasBytesAt (b ∷ s) (suc i) p → HasBytesAt s i p
+down [] b s i r = tt
+down (k ∷ p) b s i r = (r.0, down p b s (suc i) r.1)
+
 up : (p : List ℕ) (b : ℕ) (s : List ℕ) (i : ℕ) → HasBytesAt s i p → HasBytesAt (b ∷ s) (suc i) p
 up [] b s i r = tt
 up (k ∷ p) b s i r = (r.0, up p b s (suc i) r.1)
+
+begins : (p s : List ℕ) → length p ≤ length s → HasBytesAt s 0 p → s ≡ p ++ drop (length p) s
+begins [] s l r = refl
+begins (k ∷ p) [] l r = absurd (omega arith)
+begins (k ∷ p) (b ∷ s) l r = ap (λ x. x ∷ s) r.0 ∙ ap (λ t. k ∷ t) (begins p s (omega arith) (down p b s 0 r.1))
+
+-- A line that has the key is the key and the rest, as the pattern takes it.
+pub known : (p s : List ℕ) → length p ≤ length s → HasBytesAt s 0 p → s ≡ p ++ take (length s - length p) (drop (length p) s)
+known p s l r = begins p s l r ∙ ap (λ t. p ++ t) (sym (take_rest s (length p)))
 
 -- A line that does not have the key gives nothing under it, and so is what the other keys say.
 miss : (p s : List ℕ) → (length p ≤ length s → HasBytesAt s 0 p → ⊥) → after p s ≡ None
@@ -51,6 +66,21 @@ miss (k ∷ p) (b ∷ s) h =
     (λ f. cond-false _ _ _ f)
     (cases_Bool (eqb b k))
 
-pub other : (key : Key) (line : List ℕ) (t : Option KeyValue) → (length (key_text key) ≤ length line → HasBytesAt line 0 (key_text key) → ⊥)
-    → as_key key line t ≡ t
-other key line t h = ap (λ o. under key o t) (miss (key_text key) line h)
+pub other : (key : Key) (p s : List ℕ) (t : Option KeyValue) → (length p ≤ length s → HasBytesAt s 0 p → ⊥) → under key (after p s) t ≡ t
+other key p s t h = ap (λ o. under key o t) (miss p s h)
+
+-- A value with another length or other bytes than p is not p.
+pub unlike : (p s : List ℕ) → (length s ≡ length p → HasBytesAt s 0 p → ⊥) → bytes_eq s p ≡ false
+unlike [] [] h = absurd (h refl tt)
+unlike [] (b ∷ s) h = refl
+unlike (k ∷ p) [] h = refl
+unlike (k ∷ p) (b ∷ s) h =
+    ⊎_elim
+    (λ t. and_right _ _ (unlike p s (λ l r. h (omega arith) (eqb-true _ _ t, up p b s 0 r))))
+    (λ f. and_left _ _ f)
+    (cases_Bool (eqb b k))
+
+-- A line that is read as line n has the number n.
+pub counted : (n : ℕ) (text : List ℕ) {number : ℕ} {t : KeyValue} {rest : List ℕ} → Ok ((number, t), rest) ≡ next_line n text → number ≡ n
+unfolding next_line
+counted n text e = search rules
