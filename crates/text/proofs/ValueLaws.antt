@@ -6,7 +6,7 @@ use Rattle.std.proofs.lemmas.List.FromFn.{length-map-range_with_len, get_or-map-
 use Rattle.std.proofs.lemmas.List.{ext_get_or}
 use Rattle.std.proofs.lemmas.List.Sums.{AllPass-from_list_all, list_all-from_AllPass}
 use Rattle.std.specs.List.{list_all}
-use Rattle.std.proofs.lemmas.Bool.{cond-true, and_parts, and_from, le-leb}
+use Rattle.std.proofs.lemmas.Bool.{cond-true, ne_eqb, and_parts, and_from, le-leb, not_from_false}
 use Rattle.cells.specs.Sets.{has, set_of}
 use Rattle.cells.proofs.SetLaws.{has-set_of, set_of_below, is_set_of}
 use Rattle.text.specs.Values.{is_digit, all_digits, one_digit, is_mark, all_marks, marked, read_marks, marks_of}
@@ -24,6 +24,9 @@ inline_from test h (b ∷ bs) t =
     let p = and_parts (test b) (list_all test bs) t in
     and_from _ _ (h b p.0) (inline_from test h bs p.1)
 
+digit_bounds : (b : ℕ) → is_digit b ≡ true → (48 ≤ b) × (b ≤ 57)
+digit_bounds b h = grind (arith, nat_tests)
+
 pub digit_whole : (v : List ℕ) (n : ℕ) → one_digit v ≡ Some n → v ≡ (n + 48) ∷ []
 digit_whole [] n e = cc
 digit_whole (b ∷ []) n e = grind (arith, nat_tests)
@@ -33,9 +36,15 @@ pub digit_join : (n : ℕ) → n ≤ 9 → one_digit ((n + 48) ∷ []) ≡ Some 
 digit_join n h = grind (arith, nat_tests)
 
 pub digits_inline : (ds : List ℕ) → all_digits ds ≡ true → inline ds ≡ true
-digits_inline ds h = inline_from is_digit (λ b t. grind (arith, nat_tests)) ds h
+digits_inline ds h = inline_from is_digit (λ b t. not_from_false (eqb b 10) (ne_eqb b 10 (λ e. omega (arith, digit_bounds b t)))) ds h
 
 -- Marks.
+mark_inline : (b : ℕ) → is_mark b ≡ true → eqb b 10 ≡ false
+mark_inline b h = grind (arith, nat_tests)
+
+all_inline : (ms : List ℕ) → all_marks ms ≡ true → inline ms ≡ true
+all_inline ms h = inline_from is_mark (λ b t. not_from_false (eqb b 10) (mark_inline b t)) ms h
+
 pub marks-length : (s n : ℕ) → length (marks_of s n) ≡ n
 marks-length s n = length-map-range_with_len (λ c. cond (has s c) 35 46) 0 n
 
@@ -51,7 +60,7 @@ marks_all s n =
     ∙ elim (has s k) as (λ v. is_mark (cond v 35 46) ≡ true) [ true ↦ refl | false ↦ refl ])
 
 pub marks_inline : (s n : ℕ) → inline (marks_of s n) ≡ true
-marks_inline s n = inline_from is_mark (λ b t. grind (arith, nat_tests)) (marks_of s n) (marks_all s n)
+marks_inline s n = all_inline (marks_of s n) (marks_all s n)
 
 pub marks_join : (s n : ℕ) → n ≤ 64 → s < 2 ^ n → read_marks (marks_of s n) ≡ Some s
 marks_join s n m h =
