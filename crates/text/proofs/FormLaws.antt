@@ -1,5 +1,5 @@
 -- A text is read as a question exactly if it is the text of a proper question.
-use Rattle.std.proofs.Common.{◌≡◌, ℕ, ◌+◌, ◌*◌, ◌^◌, ◌<◌, Bool, true, cond, not, ◌&&◌, eqb, List, [], ◌∷◌, ◌++◌, length, get_or, take, drop, drop-cons, position, Some, None, Ok, Err, codes, Option, Result, sym, refl, ap, ◌∙◌, subst, ap₂, arith}
+use Rattle.std.proofs.Common.{◌≡◌, ℕ, ◌+◌, ◌*◌, ◌^◌, ◌<◌, Bool, true, cond, not, ◌&&◌, eqb, ◌⊎◌, List, [], ◌∷◌, ◌++◌, length, get_or, take, drop, drop-cons, position, Some, None, Ok, Err, codes, Option, Result, sym, refl, ap, ◌∙◌, subst, ap₂, inl, inr, ⊎_elim, arith}
 use Rattle.std.specs.Option.{option_map}
 use Rattle.std.specs.Str.{bytes_eq}
 use Rattle.std.proofs.lemmas.Bool.{cond-true, eq-eqb, ne_eqb, eqb-true, and_parts, and_from, not_from_false}
@@ -73,20 +73,25 @@ after_whole (k ∷ key) [] value e = cc
 after_whole (k ∷ key) (b ∷ line) value e = grind (arith, nat_tests, after_whole key line value)
 
 as_key_lem : (key : Key) (line : List ℕ) (other : Option KeyValue) (t : KeyValue) → as_key key line other ≡ Some t
-    → (other ≡ Some t → line ≡ key_text t.0 ++ t.1) → line ≡ key_text t.0 ++ t.1
-as_key_lem key line other t e otherwise = told (after (key_text key) line) (after_whole (key_text key) line) e
+    → (line ≡ key_text t.0 ++ t.1) ⊎ (other ≡ Some t)
+as_key_lem key line other t e = told (after (key_text key) line) (after_whole (key_text key) line) e
   where
-    told : (o : Option (List ℕ)) → ((v : List ℕ) → o ≡ Some v → line ≡ key_text key ++ v) → under key o other ≡ Some t → line ≡ key_text t.0 ++ t.1
-    told None h d = otherwise d
-    told (Some v) h d = h v refl ∙ ap (λ x. key_text x.0 ++ x.1) (same_Some _ _ d)
+    told : (o : Option (List ℕ)) → ((v : List ℕ) → o ≡ Some v → line ≡ key_text key ++ v) → under key o other ≡ Some t
+        → (line ≡ key_text t.0 ++ t.1) ⊎ (other ≡ Some t)
+    told None h d = inr d
+    told (Some v) h d = inl (h v refl ∙ ap (λ x. key_text x.0 ++ x.1) (same_Some _ _ d))
 
 key_value_lem : (line : List ℕ) (t : KeyValue) → key_value line ≡ Some t → line ≡ key_text t.0 ++ t.1
 key_value_lem line t e =
-    as_key_lem kind line _ t e
-    (λ e. as_key_lem size line _ t e
-    (λ e. as_key_lem grid line _ t e
-    (λ e. as_key_lem map line _ t e
-    (λ e. as_key_lem clues line None t e (λ e. cc)))))
+    ⊎_elim (λ h. h)
+    (λ d. ⊎_elim (λ h. h)
+    (λ d. ⊎_elim (λ h. h)
+    (λ d. ⊎_elim (λ h. h)
+    (λ d. ⊎_elim (λ h. h) (λ d. cc) (as_key_lem clues line None t d))
+    (as_key_lem map line _ t d))
+    (as_key_lem grid line _ t d))
+    (as_key_lem size line _ t d))
+    (as_key_lem kind line _ t e)
 
 -- Each key is told by its own bytes.
 key_told : (key : Key) (value : List ℕ) → key_value (key_text key ++ value) ≡ Some (key, value)
