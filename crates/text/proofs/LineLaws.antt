@@ -1,9 +1,9 @@
 -- Where the first line of a text ends, which key it has, and which number.
-use Rattle.std.proofs.Common.{◌≡◌, ℕ, zero, suc, ◌+◌, ◌-◌, ◌<◌, ◌≤◌, false, cond, not, eqb, ltb, List, [], ◌∷◌, ◌++◌, length, get_or, take, drop, None, Some, Ok, Option, sym, refl, ap, ◌∙◌, ⊎_elim, add-one, arith, rules}
+use Rattle.std.proofs.Common.{◌≡◌, ℕ, zero, suc, ◌+◌, ◌-◌, ◌<◌, ◌≤◌, true, false, cond, not, eqb, ltb, List, [], ◌∷◌, ◌++◌, length, get_or, take, drop, None, Some, Ok, Option, sym, refl, ap, ◌∙◌, ⊎_elim, add-one, arith, rules}
 use Rattle.std.specs.List.{position_or_len}
 use Rattle.std.specs.Option.{option_map}
 use Rattle.std.specs.Str.{bytes_eq}
-use Rattle.std.proofs.lemmas.Slice.Eq.{HasBytesAt}
+use Rattle.std.proofs.lemmas.Slice.Eq.{HasBytesAt, bytes_eq-Decides, text_from_reads}
 use Rattle.std.proofs.lemmas.List.{take_rest}
 use Rattle.std.proofs.lemmas.Bool.{cond-true, cond-false, cases_Bool, eqb-true, eq-eqb, ne_eqb, lt-ltb, le-ltb, and_left, and_right}
 use Rattle.text.specs.Lines.{split_line, after, Key, KeyValue, under, next_line}
@@ -68,6 +68,12 @@ miss (k ∷ p) (b ∷ s) h =
 
 pub other : (key : Key) (p s : List ℕ) (t : Option KeyValue) → (length p ≤ length s → HasBytesAt s 0 p → ⊥) → under key (after p s) t ≡ t
 other key p s t h = ap (λ o. under key o t) (miss p s h)
+
+-- A value with the length and the bytes of p is p.
+pub like : (p s : List ℕ) → length s ≡ length p → HasBytesAt s 0 p → (bytes_eq s p ≡ true) × (s ≡ p)
+like p s l r =
+    let same = text_from_reads s p l r in
+    ((bytes_eq-Decides s p).1 same, same)
 
 -- A value with another length or other bytes than p is not p.
 pub unlike : (p s : List ℕ) → (length s ≡ length p → HasBytesAt s 0 p → ⊥) → bytes_eq s p ≡ false

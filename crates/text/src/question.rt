@@ -83,6 +83,7 @@ fn read_size(text: &[u8]) -> Result<(usize, &[u8]), Refused>
 }
 
 /// `kind=`: the puzzle's name.
+#[tactic(auto, using(crate::proofs::LineLaws::like))]
 fn kind_of(token: Token<'_>) -> Option<Kind>
     ensures { option_map kind_name result ≡ value_under kind kind_value (token_shown token.entry) }
 {
