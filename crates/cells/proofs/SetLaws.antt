@@ -1,5 +1,5 @@
 -- The laws of sets of cells.
-use Rattle.std.proofs.Common.{◌≡◌, ℕ, zero, suc, ◌+◌, ◌-◌, ◌*◌, ◌/◌, ◌%◌, ◌^◌, ◌<◌, ◌≤◌, min, max, Bool, true, false, cond, not, ◌&&◌, ◌||◌, eqb, ltb, List, ◌∷◌, Decides, sym, refl, ap, ◌∙◌, ap₂, ⊎_elim, add-mul, pow-suc, add-one, one-add, arith, pow_mono}
+use Rattle.std.proofs.Common.{◌≡◌, ℕ, zero, suc, ◌+◌, ◌-◌, ◌*◌, ◌/◌, ◌%◌, ◌^◌, ◌<◌, ◌≤◌, min, max, Bool, true, false, cond, not, ◌&&◌, ◌||◌, eqb, ltb, List, [], ◌∷◌, Decides, sym, refl, ap, ◌∙◌, ap₂, ⊎_elim, add-mul, pow-suc, add-one, one-add, arith, pow_mono}
 use mathlib.Core.Bool.{and-true, and-false, or-false}
 use native.Mathlib.Nat.{div-eq_of_lt, two-pow-succ}
 use lib.Bits.{bit_and, bit_or, and_step, and_shr, and_le_l, and_block, and_mask, and_zero_r, or_step, or_shr, or_lt, or_disjoint}
@@ -326,3 +326,15 @@ fold-with p k (suc n) l =
     (λ (f : p k ≡ false).
     ap (λ b. fold with (set_of p k) (cond b (k ∷ rest) rest)) f ∙ ap (λ s. fold with s rest) (set_of_miss p k f) ∙ on)
     (cases_Bool (p k))
+
+-- The same where the test is made in the fold.
+pub fold_with_if : (p : ℕ → Bool) (k n : ℕ) → k + n ≤ 64 → fold (λ s c. cond (p c) (with s c) s) (set_of p k) (range_with_len k n) ≡ set_of p (k + n)
+fold_with_if p k n l = fold-filter with p (set_of p k) (range_with_len k n) ∙ fold-with p k n l
+  where
+    fold-filter : {A B : Type 0} (f : B → A → B) (q : A → Bool) (b : B) (xs : List A) → fold (λ s x. cond (q x) (f s x) s) b xs ≡ fold f b (filter q xs)
+    fold-filter f q b [] = refl
+    fold-filter f q b (x ∷ xs) =
+        elim (q x) as (λ v. fold (λ s y. cond (q y) (f s y) s) (cond v (f b x) b) xs ≡ fold f b (cond v (x ∷ filter q xs) (filter q xs))) [
+          | true ↦ fold-filter f q (f b x) xs
+          | false ↦ fold-filter f q b xs
+        ]

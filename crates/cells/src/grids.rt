@@ -1,4 +1,4 @@
-ghost use Rattle.std.specs.Prelude.{◌≡◌, ◌≤◌, not, slice_index};
+ghost use Rattle.std.specs.Prelude.{◌≡◌, ◌≤◌, not, length, slice_index};
 ghost use Rattle.cells.specs.Sets.{meets};
 ghost use Rattle.cells.specs.Grids.{agree, differ_below, differ, in_strip};
 
@@ -27,12 +27,16 @@ pub fn agree(set: CellSet, one: &[u8], other: &[u8]) -> bool
 
 /// The cells below `count` where the grids differ.
 fn difference_below(count: usize, one: &[u8], other: &[u8]) -> CellSet
-    requires { count ≤ 64 }
+    requires { (count ≤ 64) × ((count ≤ length one.now) × (count ≤ length other.now)) }
     ensures { result ≡ differ_below count one.now other.now }
 {
-    (0..count)
-        .filter(|&cell| value_at(one, cell) != value_at(other, cell))
-        .fold(0, with)
+    (0..count).fold(0, |set, cell| {
+        if one[cell] != other[cell] {
+            with(set, cell)
+        } else {
+            set
+        }
+    })
 }
 
 /// The difference set: the cells below 64 that both grids have and where they differ.
