@@ -44,14 +44,15 @@ impl Latin {
     pub fn count(&self) -> usize
         ensures { result ≡ cell_count self.now }
     {
-        self.grid.len()
+        self.size * self.size
     }
 
     /// The given grid.
     pub fn given(&self) -> &[u8]
         ensures { result.now ≡ given self.now }
     {
-        self.grid.as_slice()
+        // The whole vector; cut so, its length is also the bound of a loop over the cells, which then needs no check of each.
+        &self.grid.as_slice()[..self.count()]
     }
 
     /// Whether the bytes are a finished grid of the puzzle's size.
